@@ -1,0 +1,34 @@
+-- What the branches of a function tell, as rules for `search`: `search tests` closes most returns of a chain of tests. Assumes nothing.
+use borrow.Author.Needs.{needs}
+use borrow.Author.Tests.{le-leb, lt-leb, lt-ltb, le-ltb, eq-eqb, ne-eqb}
+use mathlib.Core.Path.{_≡_}
+use mathlib.Core.Bool.{Bool, true, false, not, _&&_, _||_}
+use Rattle.base.proofs.Choice.{if-true, if-false}
+
+pub not-true : (t : Bool) → t ≡ false → not t ≡ true
+not-true t e = rw e
+
+pub not-false : (t : Bool) → t ≡ true → not t ≡ false
+not-false t e = rw e
+
+pub and-true : (a b : Bool) → a ≡ true → b ≡ true → (a && b) ≡ true
+and-true a b p q = rw (p, q)
+
+pub and-first : (a b : Bool) → a ≡ false → (a && b) ≡ false
+and-first a b p = rw p
+
+pub and-second : (a b : Bool) → a ≡ true → b ≡ false → (a && b) ≡ false
+and-second a b p q = rw (p, q)
+
+pub or-false : (a b : Bool) → a ≡ false → b ≡ false → (a || b) ≡ false
+or-false a b p q = rw (p, q)
+
+pub or-first : (a b : Bool) → a ≡ true → (a || b) ≡ true
+or-first a b p = rw p
+
+pub or-second : (a b : Bool) → a ≡ false → b ≡ true → (a || b) ≡ true
+or-second a b p q = rw (p, q)
+
+pub ruleset joined = (and-true, and-first, and-second, or-false, or-first, or-second)
+
+pub ruleset tests = (needs, if-true, if-false, not-true, not-false, le-leb, lt-leb, lt-ltb, le-ltb, eq-eqb, ne-eqb)

@@ -1,0 +1,28 @@
+-- The laws of holding periods. Assumes nothing.
+use Prim.Native.Nat.{ℕ, _+_, _≤_}
+use native.Mathlib.Omega.{arith}
+use lib.Dec.{eqb}
+use Rattle.base.proofs.Choice.{either}
+use Rattle.scaling.specs.Period.{minimumPeriod, holdingPeriod, guaranteePeriod}
+
+minimum-bound : (kind : ℕ) → minimumPeriod kind ≤ 20
+unfolding minimumPeriod
+minimum-bound kind =
+    either (λ m. m ≤ 20) (eqb kind 1) (λ e. omega arith) (λ e. either (λ m. m ≤ 20) (eqb kind 2) (λ e. omega arith) (λ e. omega arith))
+
+-- more frequent revaluation, no longer a period
+pub period-mono : (kind : ℕ) {i j : ℕ} → i ≤ j → holdingPeriod kind i ≤ holdingPeriod kind j
+unfolding holdingPeriod
+period-mono kind h = omega arith
+
+pub guarantee-mono : {i j : ℕ} → i ≤ j → guaranteePeriod i ≤ guaranteePeriod j
+unfolding guaranteePeriod
+guarantee-mono h = omega arith
+
+pub period-bound : (kind interval : ℕ) → holdingPeriod kind interval ≤ interval + 20
+unfolding holdingPeriod
+period-bound kind interval = omega (arith, minimum-bound kind)
+
+pub guarantee-bound : (interval : ℕ) → guaranteePeriod interval ≤ interval + 9
+unfolding guaranteePeriod
+guarantee-bound interval = omega arith

@@ -1,0 +1,50 @@
+-- The laws of a scaled haircut, for every haircut H and every period n. Assumes nothing.
+use Prim.Native.Nat.{ℕ, zero, suc, _+_, _*_, _≤_, _<_}
+use mathlib.Core.Path.{_≡_}
+use mathlib.Core.Bool.{true}
+use native.Mathlib.Omega.{arith}
+use native.Mathlib.Nat.{le-trans, mul-le-mul, mul-le-mul-left, le-mul-of-pos-right}
+use native.Mathlib.Decide.{decLe}
+use borrow.Author.Tests.{leb-true, le-leb}
+use Rattle.base.specs.Least.{Least}
+use Rattle.base.proofs.Least.{least-is, least-mono, least-unique}
+use Rattle.scaling.specs.Scaling.{enough, scaled}
+
+-- "10 × h × h at or above H × H × n"
+abbrev pub Enough : ℕ → ℕ → ℕ → Type 0
+Enough H n h = H * H * n ≤ 10 * h * h
+
+square : (n : ℕ) → n ≤ n * n
+square zero = omega arith
+square (suc n) = le-mul-of-pos-right (suc n) (omega arith)
+
+pub larger : {h k : ℕ} → h ≤ k → 10 * h * h ≤ 10 * k * k
+larger {h} {k} le = mul-le-mul (mul-le-mul-left 10 le) le
+
+-- "the least whole number h"
+pub scaled-is : (H n : ℕ) → Least (Enough H n) (scaled H n)
+unfolding scaled
+scaled-is H n =
+    let top : Enough H n (H * n) = omega (arith, mul-le-mul-left (H * H) (square n)) in
+    let l = least-is (enough H n) (λ i j le t. le-leb _ _ (le-trans (leb-true _ _ t) (larger le))) (H * n) (le-leb _ _ top) in
+    record { passes = leb-true _ _ (l .passes); lowest = λ k e. l .lowest k (le-leb _ _ e) }
+
+-- what shows that a number is the scaled haircut: it is enough, and nothing below it is
+pub scaled-by-step : (H n low : ℕ) → 10 * low * low < H * H * n → Enough H n (low + 1) → low + 1 ≡ scaled H n
+scaled-by-step H n low fails passes = least-unique (record { passes = passes; lowest = λ k e. above k e }) (scaled-is H n)
+  where
+    above : (k : ℕ) → Enough H n k → low + 1 ≤ k
+    above k e = go (decLe k low)
+      where
+        go : Dec (k ≤ low) → low + 1 ≤ k
+        go (yes le) = absurd (omega (arith, larger le))
+        go (no gt) = omega arith
+
+-- a larger haircut, a longer period: no smaller
+pub scaled-mono : {H H′ n n′ : ℕ} → H ≤ H′ → n ≤ n′ → scaled H n ≤ scaled H′ n′
+scaled-mono {H} {H′} {n} {n′} p q =
+    least-mono (λ k e. le-trans (mul-le-mul (mul-le-mul p p) q) e) (scaled-is H n) (scaled-is H′ n′)
+
+-- a bound that is enough
+pub scaled-le : (H n : ℕ) {b : ℕ} → Enough H n b → scaled H n ≤ b
+scaled-le H n e = scaled-is H n .lowest _ e

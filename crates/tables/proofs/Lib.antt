@@ -1,0 +1,5 @@
+pub mod Within
+pub mod Listed
+pub mod Bands
+pub mod Laws
+pub mod Bounds

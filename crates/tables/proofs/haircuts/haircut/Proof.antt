@@ -1,0 +1,38 @@
+-- `tables::haircuts::haircut` meets its contract. Assumes nothing.
+use mathlib.Core.Logic.{⊎-elim}
+use Rattle.base.proofs.Tests.{tests, joined}
+use Rattle.tables.specs.Haircuts.{haircut}
+use Rattle.tables.proofs.haircuts.haircut.Statement.{statement}
+use Rattle.tables.proofs.haircuts.haircut.Tie as tie
+
+returns : tie.Need-returns
+unfolding haircut
+returns c = search tests
+
+returns-2 : tie.Need-returns-2
+unfolding haircut
+returns-2 c = search tests
+
+returns-3 : tie.Need-returns-3
+unfolding haircut
+returns-3 c = search tests
+
+returns-4 : tie.Need-returns-4
+unfolding haircut
+returns-4 c = search tests
+
+returns-5 : tie.Need-returns-5
+unfolding haircut
+returns-5 c = search (tests, joined)
+
+debt-haircut-requires : tie.Need-debt-haircut-requires
+debt-haircut-requires c κs = search tests
+
+returns-6 : tie.Need-returns-6
+unfolding haircut
+returns-6 c = ⊎-elim (λ w. search (tests, joined)) (λ w. search (tests, joined)) (c .before .if5 .came)
+
+pub haircut-spec : {M : Type 1} → statement M
+haircut-spec =
+    tie.close
+    (tie.spec returns returns-2 returns-3 returns-4 returns-5 debt-haircut-requires returns-6)

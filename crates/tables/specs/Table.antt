@@ -1,0 +1,58 @@
+-- A set of tables, and what any such set must have so that betterments never raise the weighted amount. 01: Betterments
+use Prim.Native.Nat.{ℕ, _≤_}
+use mathlib.Core.Path.{_≡_}
+use mathlib.Core.Bool.{Bool, true}
+use Rattle.tables.specs.Eligibility.{eligible}
+use Rattle.tables.specs.Haircuts.{haircut, lentHaircut}
+use Rattle.tables.specs.Weights.{counterpartyWeight, providerWeight}
+
+pub record Table : Type 0 where
+  -- by type, step and the condition "listed senior bank paper"
+  pub eligible : ℕ → ℕ → ℕ → Bool
+  -- by type, step and issue life
+  pub haircut : ℕ → ℕ → ℕ → ℕ
+  pub lentHaircut : ℕ → ℕ → ℕ → ℕ
+  -- by class and step
+  pub counterpartyWeight : ℕ → ℕ → ℕ
+  pub providerWeight : ℕ → ℕ → ℕ
+
+-- CRE20 and CRE22, version of 2019
+abbrev pub table2019 : Table
+table2019 = record {
+  eligible = eligible;
+  haircut = haircut;
+  lentHaircut = lentHaircut;
+  counterpartyWeight = counterpartyWeight;
+  providerWeight = providerWeight;
+}
+
+-- a type of goods
+abbrev pub Goods : ℕ → Type 0
+Goods goods = (1 ≤ goods) × (goods ≤ 9)
+
+-- a provider's class
+abbrev pub Provider : ℕ → Type 0
+Provider class = (1 ≤ class) × (class ≤ 3)
+
+-- a step no worse than another, both of them rated
+abbrev pub Better : ℕ → ℕ → Type 0
+Better step′ step = (1 ≤ step′) × ((step′ ≤ step) × (step ≤ 6))
+
+pub record TableLaws (t : Table) : Type 0 where
+  -- a better step stays eligible
+  pub step-eligible :
+      (goods step step′ listed : ℕ) → Goods goods → Better step′ step → listed ≤ 1 → t .eligible goods step listed ≡ true →
+      t .eligible goods step′ listed ≡ true
+  -- and has no larger haircut
+  pub step-haircut :
+      (goods step step′ listed life : ℕ) → Goods goods → Better step′ step → listed ≤ 1 → t .eligible goods step listed ≡ true →
+      t .haircut goods step′ life ≤ t .haircut goods step life
+  -- nor have goods lent, whether eligible or not
+  pub step-lent :
+      (goods step step′ life : ℕ) → Goods goods → Better step′ step → t .lentHaircut goods step′ life ≤ t .lentHaircut goods step life
+  -- a better provider weighs no more
+  pub step-weight :
+      (class step step′ : ℕ) → Provider class → Better step′ step → t .providerWeight class step′ ≤ t .providerWeight class step
+  -- a listing takes nothing away
+  pub listed-eligible :
+      (goods step : ℕ) → Goods goods → step ≤ 6 → t .eligible goods step 0 ≡ true → t .eligible goods step 1 ≡ true

@@ -1,0 +1,6 @@
+// The tables of CRE20 and CRE22 (2019) as document 01 reads them: which goods are eligible, their haircuts, and the
+// risk weights of counterparties and protection providers. Haircuts are in millionths, risk weights in percent.
+pub mod eligibility;
+pub mod goods;
+pub mod haircuts;
+pub mod weights;

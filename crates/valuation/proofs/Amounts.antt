@@ -1,0 +1,26 @@
+-- The laws of the raised exposure and of the weighted amount. Assumes nothing.
+use Prim.Native.Nat.{ℕ, _+_, _*_, _≤_}
+use native.Mathlib.Omega.{arith}
+use native.Mathlib.Nat.{mul-le-mul}
+use Rattle.base.specs.Least.{Least}
+use Rattle.base.proofs.Rounding.{roundUp-mono, roundUp-is}
+use Rattle.valuation.specs.Exposure.{raised, weighted}
+
+-- a larger haircut of the goods lent, no smaller an exposure
+pub raised-mono : {a a′ cut cut′ : ℕ} → a ≤ a′ → cut ≤ cut′ → raised a cut ≤ raised a′ cut′
+unfolding raised
+raised-mono ha hc = roundUp-mono 1000000 (mul-le-mul ha (omega arith))
+
+-- never below the amount
+pub raised-least : (a cut : ℕ) → a ≤ raised a cut
+unfolding raised
+raised-least a cut = omega (arith, roundUp-is (a * (1000000 + cut)) 1000000 (omega arith) .passes)
+
+pub weighted-mono : {x y : ℕ} → x ≤ y → weighted x ≤ weighted y
+unfolding weighted
+weighted-mono h = roundUp-mono 100 h
+
+-- the least amount of which x is at most a hundredfold
+pub weighted-is : (x : ℕ) → Least (λ m. x ≤ m * 100) (weighted x)
+unfolding weighted
+weighted-is x = roundUp-is x 100 (omega arith)

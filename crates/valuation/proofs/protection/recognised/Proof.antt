@@ -1,0 +1,21 @@
+-- `valuation::protection::recognised` meets its contract. Assumes nothing.
+use mathlib.Core.Path.{_∙_}
+use native.Mathlib.Omega.{arith}
+use Rattle.base.proofs.Tests.{tests}
+use Rattle.valuation.proofs.Values.{reduced-le}
+use Rattle.valuation.specs.Protection.{recognised}
+use Rattle.valuation.proofs.protection.recognised.Statement.{statement}
+use Rattle.valuation.proofs.protection.recognised.Tie as tie
+
+reduced-requires : tie.Need-reduced-requires
+reduced-requires c κs = search tests
+
+adjusted-requires : tie.Need-adjusted-requires
+adjusted-requires c κs = omega (arith, reduced-le (c .before .args .amount) (c .before .args .cut))
+
+returns : tie.Need-returns
+unfolding recognised
+returns c = c .adjusted .ensures ∙ rw (c .before .reduced .ensures)
+
+pub recognised-spec : {M : Type 1} → statement M
+recognised-spec = tie.close (tie.spec reduced-requires adjusted-requires returns)

@@ -1,0 +1,3 @@
+pub mod Haircuts
+pub mod Protection
+pub mod Exposure

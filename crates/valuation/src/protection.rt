@@ -1,0 +1,56 @@
+// The value of recognised protection: the amount less its haircuts, adjusted for a maturity mismatch.
+ghost use mathlib.Core.Path.{_≡_};
+ghost use Prim.Native.Nat.{_≤_};
+ghost use Rattle.valuation.specs.Protection.{keepShare, reduced as reducedOf, adjusted as adjustedOf, recognised as recognisedOf};
+use base::smaller;
+
+const WHOLE: u64 = 1_000_000;
+
+// Days: three months, and five years.
+const SHORTEST: u64 = 90;
+
+const LONGEST: u64 = 1_800;
+
+// What the haircuts leave of the whole.
+pub fn keep_share(cut: u64) -> u64
+    ensures { λ r. ⌜ r ≡ keepShare cut ⌝ }
+{
+    if cut >= WHOLE {
+        return 0;
+    }
+    WHOLE - cut
+}
+
+// The amount after haircuts, rounded down.
+pub fn reduced(amount: u64, cut: u64) -> u64
+    requires { ⌜ amount ≤ 1000000000000 ⌝ }
+    ensures { λ r. ⌜ r ≡ reducedOf amount cut ⌝ }
+{
+    let share = keep_share(cut);
+    amount * share / WHOLE
+}
+
+// The value where cover ends before the deal's term, rounded down again; unchanged where it does not.
+pub fn adjusted(value: u64, cover: u64, term: u64) -> u64
+    requires { ⌜ value ≤ 1000000000000 ⌝ }
+    ensures { λ r. ⌜ r ≡ adjustedOf value cover term ⌝ }
+{
+    if cover >= term {
+        return value;
+    }
+    if cover <= SHORTEST {
+        return 0;
+    }
+    let deal_term = smaller(term, LONGEST);
+    let cover_term = smaller(deal_term, cover);
+    value * (cover_term - SHORTEST) / (deal_term - SHORTEST)
+}
+
+// The value of an item that no ground leaves out.
+pub fn recognised(amount: u64, cut: u64, cover: u64, term: u64) -> u64
+    requires { ⌜ amount ≤ 1000000000000 ⌝ }
+    ensures { λ r. ⌜ r ≡ recognisedOf amount cut cover term ⌝ }
+{
+    let value = reduced(amount, cut);
+    adjusted(value, cover, term)
+}
