@@ -1,4 +1,4 @@
-// The figures at the edges.
+// The figures at the edges, and some beside them that a misreading would change.
 ghost use Prim.Native.Nat.{_≤_};
 use scaling::period::guarantee_period;
 use scaling::period::holding_period;
@@ -7,9 +7,14 @@ use tables::haircuts::haircut;
 use tables::haircuts::lent_haircut;
 use valuation::exposure::raised;
 use valuation::exposure::weighted;
-use valuation::haircuts::currency_cut;
-use valuation::haircuts::item_cut;
+use valuation::haircuts::collateral_cut;
+use valuation::haircuts::guarantee_cut;
+use valuation::haircuts::lent_cut;
 use valuation::protection::recognised;
+
+const HOME: u64 = 978;
+
+const ABROAD: u64 = 840;
 
 fn figure(label: &[u8], value: u64) {
     io::write_all(1, label);
@@ -20,8 +25,10 @@ fn figure(label: &[u8], value: u64) {
 
 pub fn print() {
     scaling();
-    haircuts();
-    values();
+    matched();
+    mismatched();
+    abroad();
+    exposures();
     amounts();
 }
 
@@ -38,75 +45,141 @@ fn scaling() {
     figure(b"guarantee, interval 1: n", guarantee_period(1));
 }
 
-fn haircuts() {
+// Goods pledged under a deal in the home currency, of the same term.
+fn pledged(
+    amount: u64,
+    goods: u64,
+    step: u64,
+    life: u64,
+    currency: u64,
+    kind: u64,
+    interval: u64,
+) -> u64
+    requires { ⌜ (amount ≤ 1000000000000) × ((1 ≤ interval) × (interval ≤ 250)) ⌝ }
+{
+    let cut = collateral_cut(haircut(goods, step, life), currency, HOME, kind, interval);
+    recognised(amount, cut, 1_800, 1_800)
+}
+
+fn matched() {
     figure(b"type 3, step 3, life 360", haircut(3, 3, 360));
     figure(b"type 3, step 3, life 361", haircut(3, 3, 361));
-}
-
-// Goods of a million pledged under secured lending in currency 978.
-fn pledged(goods: u64, currency: u64, interval: u64, cover: u64, term: u64) -> u64
-    requires { ⌜ (1 ≤ interval) × (interval ≤ 250) ⌝ }
-{
-    let period = holding_period(3, interval);
-    let cut = item_cut(haircut(goods, 0, 0), currency, 978, period);
-    recognised(1_000_000, cut, cover, term)
-}
-
-// A guarantee of 200,000 in another currency, with no mismatch.
-fn guaranteed(interval: u64) -> u64
-    requires { ⌜ interval ≤ 250 ⌝ }
-{
-    let period = guarantee_period(interval);
-    recognised(200_000, currency_cut(840, 978, period), 1_800, 1_800)
-}
-
-// An exposure of 100 under a repo that lends goods.
-fn lent(goods: u64, interval: u64) -> u64
-    requires { ⌜ (1 ≤ interval) × (interval ≤ 250) ⌝ }
-{
-    let period = holding_period(1, interval);
-    raised(100, scaled_haircut(lent_haircut(goods, 0, 0), period))
-}
-
-fn values() {
     figure(
         b"type 8, kind 3, interval 250: value of 1000000",
-        pledged(8, 978, 250, 1_800, 1_800),
+        pledged(1_000_000, 8, 0, 0, HOME, 3, 250),
     );
     figure(
+        b"type 9, kind 2, interval 1: value of 1000000",
+        pledged(1_000_000, 9, 0, 0, HOME, 2, 1),
+    );
+    figure(
+        b"type 3, step 1, life 1800, kind 3, interval 250: value of 1000000000000",
+        pledged(1_000_000_000_000, 3, 1, 1_800, HOME, 3, 250),
+    );
+}
+
+fn mismatched() {
+    figure(
         b"cash 1000000, term 900 of 1800",
-        pledged(1, 978, 1, 900, 1_800),
+        recognised(1_000_000, 0, 900, 1_800),
     );
     figure(
         b"cash 1000000, term 91 of 1800",
-        pledged(1, 978, 1, 91, 1_800),
+        recognised(1_000_000, 0, 91, 1_800),
     );
     figure(
         b"cash 1000000, term 90 of 1800",
-        pledged(1, 978, 1, 90, 1_800),
+        recognised(1_000_000, 0, 90, 1_800),
+    );
+    figure(
+        b"cash 1000000, term 90 of 90",
+        recognised(1_000_000, 0, 90, 90),
+    );
+    figure(
+        b"cash 1000000, term 900 of 3600",
+        recognised(1_000_000, 0, 900, 3_600),
     );
     figure(
         b"cash 1000000, term 1799 of 36000",
-        pledged(1, 978, 1, 1_799, 36_000),
+        recognised(1_000_000, 0, 1_799, 36_000),
     );
     figure(
-        b"cash 1000000, term 1800 of 36000",
-        pledged(1, 978, 1, 1_800, 36_000),
+        b"cash 1000000, term 2700 of 3600",
+        recognised(1_000_000, 0, 2_700, 3_600),
     );
+    // Both roundings: 886 of 1,000, then 419; at once it would be 420.
+    figure(
+        b"1000 cut by 113138, term 900 of 1800",
+        recognised(1_000, 113_138, 900, 1_800),
+    );
+}
+
+fn abroad() {
     figure(
         b"cash 1000000 in another currency, kind 3, interval 1",
-        pledged(1, 840, 1, 1_800, 1_800),
+        pledged(1_000_000, 1, 0, 0, ABROAD, 3, 1),
+    );
+    figure(
+        b"cash 1000000 in another currency, kind 2, interval 1",
+        pledged(1_000_000, 1, 0, 0, ABROAD, 2, 1),
+    );
+    figure(
+        b"cash 1000000 in another currency, kind 1, interval 1",
+        pledged(1_000_000, 1, 0, 0, ABROAD, 1, 1),
+    );
+    figure(
+        b"cash 1 in another currency, kind 3, interval 1",
+        pledged(1, 1, 0, 0, ABROAD, 3, 1),
+    );
+    // Each haircut scaled by itself; their sum scaled would leave 858578.
+    figure(
+        b"type 2, step 1, life 720 in another currency, kind 3, interval 1",
+        pledged(1_000_000, 2, 1, 720, ABROAD, 3, 1),
     );
     figure(
         b"guarantee 200000 in another currency, interval 1",
-        guaranteed(1),
+        recognised(200_000, guarantee_cut(ABROAD, HOME, 1), 1_800, 1_800),
+    );
+    figure(
+        b"guarantee 200000 in another currency, interval 11",
+        recognised(200_000, guarantee_cut(ABROAD, HOME, 11), 1_800, 1_800),
+    );
+}
+
+// An exposure under a repo that lends goods, revalued every six days: n is 10.
+fn lent(amount: u64, goods: u64, step: u64, life: u64) -> u64
+    requires { ⌜ amount ≤ 1000000000000 ⌝ }
+{
+    raised(amount, lent_cut(lent_haircut(goods, step, life), 1, 6))
+}
+
+fn exposures() {
+    figure(
+        b"repo lending type 8, amount 100, interval 6",
+        lent(100, 8, 0, 0),
+    );
+    figure(
+        b"repo lending type 8, amount 1, interval 6",
+        lent(1, 8, 0, 0),
+    );
+    figure(
+        b"repo lending type 3, step 3, life 360, amount 100, interval 6",
+        lent(100, 3, 3, 360),
+    );
+    figure(
+        b"repo lending type 3, step 4, life 360, amount 100, interval 6",
+        lent(100, 3, 4, 360),
+    );
+    figure(
+        b"repo lending type 4, unrated, amount 100, interval 6",
+        lent(100, 4, 0, 360),
     );
 }
 
 fn amounts() {
-    figure(b"repo lending type 8, amount 100, interval 6", lent(8, 6));
+    figure(b"portions 40 at 20 and 60 at 0", weighted(800));
     figure(b"retail, amount 1", weighted(75));
     figure(b"retail, amount 0", weighted(0));
-    figure(b"hundredths: 100", weighted(100));
-    figure(b"hundredths: 101", weighted(101));
+    figure(b"retail, amount 3", weighted(225));
+    figure(b"retail, amount 100", weighted(7_500));
 }

@@ -6,12 +6,10 @@ use native.Mathlib.Omega.{arith}
 use native.Mathlib.Nat.{le-trans, mul-le-mul, mul-le-mul-left, le-mul-of-pos-right}
 use native.Mathlib.Decide.{decLe}
 use borrow.Author.Tests.{leb-true, le-leb}
-use Rattle.base.specs.Least.{Least}
 use Rattle.base.proofs.Least.{least-is, least-mono, least-unique}
-use Rattle.scaling.specs.Scaling.{enough, scaled}
+use Rattle.scaling.specs.Scaling.{enough, scaled, IsScaled}
 
--- "10 × h × h at or above H × H × n"
-abbrev pub Enough : ℕ → ℕ → ℕ → Type 0
+abbrev Enough : ℕ → ℕ → ℕ → Type 0
 Enough H n h = H * H * n ≤ 10 * h * h
 
 square : (n : ℕ) → n ≤ n * n
@@ -21,8 +19,8 @@ square (suc n) = le-mul-of-pos-right (suc n) (omega arith)
 pub larger : {h k : ℕ} → h ≤ k → 10 * h * h ≤ 10 * k * k
 larger {h} {k} le = mul-le-mul (mul-le-mul-left 10 le) le
 
--- "the least whole number h"
-pub scaled-is : (H n : ℕ) → Least (Enough H n) (scaled H n)
+-- THE SCALED HAIRCUT IS "THE LEAST WHOLE NUMBER h", FOR EVERY H AND n
+pub scaled-is : (H n : ℕ) → IsScaled H n (scaled H n)
 unfolding scaled
 scaled-is H n =
     let top : Enough H n (H * n) = omega (arith, mul-le-mul-left (H * H) (square n)) in
@@ -30,7 +28,7 @@ scaled-is H n =
     record { passes = leb-true _ _ (l .passes); lowest = λ k e. l .lowest k (le-leb _ _ e) }
 
 -- what shows that a number is the scaled haircut: it is enough, and nothing below it is
-pub scaled-by-step : (H n low : ℕ) → 10 * low * low < H * H * n → Enough H n (low + 1) → low + 1 ≡ scaled H n
+pub scaled-by-step : (H n low : ℕ) → 10 * low * low < H * H * n → H * H * n ≤ 10 * (low + 1) * (low + 1) → low + 1 ≡ scaled H n
 scaled-by-step H n low fails passes = least-unique (record { passes = passes; lowest = λ k e. above k e }) (scaled-is H n)
   where
     above : (k : ℕ) → Enough H n k → low + 1 ≤ k
@@ -46,5 +44,9 @@ scaled-mono {H} {H′} {n} {n′} p q =
     least-mono (λ k e. le-trans (mul-le-mul (mul-le-mul p p) q) e) (scaled-is H n) (scaled-is H′ n′)
 
 -- a bound that is enough
-pub scaled-le : (H n : ℕ) {b : ℕ} → Enough H n b → scaled H n ≤ b
+pub scaled-le : (H n : ℕ) {b : ℕ} → H * H * n ≤ 10 * b * b → scaled H n ≤ b
 scaled-le H n e = scaled-is H n .lowest _ e
+
+-- what equals it is the least, too
+pub scaled-means : (H n : ℕ) {h : ℕ} → h ≡ scaled H n → (h ≡ scaled H n) × IsScaled H n h
+scaled-means H n e = (e, rw e (scaled-is H n))

@@ -1,16 +1,26 @@
--- Holding periods in business days. CRE22.61, CRE22.64; 01: Holding periods, "Let n be the interval plus that minimum less 1"
+-- Holding periods in business days. CRE22.60, CRE22.61, CRE22.64; 01: Haircuts in millionths, "Holding periods"
 use Prim.Native.Nat.{ℕ, _+_, _-_}
 use lib.Dec.{eqb}
 use Rattle.base.specs.Choice.{if_then_else_}
 
--- kinds: 1 repo-style, 2 other capital market, 3 secured lending
-unfoldable pub minimumPeriod : ℕ → ℕ
-minimumPeriod kind = if eqb kind 1 then 5 else if eqb kind 2 then 10 else 20
+-- kinds of transaction; the third is secured lending
+abbrev pub repoStyle : ℕ
+repoStyle = 1
 
--- n, of collateral and of goods lent
+abbrev pub otherCapitalMarket : ℕ
+otherCapitalMarket = 2
+
+abbrev pub securedLending : ℕ
+securedLending = 3
+
+-- "kinds 1, 2, 3 have minimum 5, 10, 20 business days". CRE22.61
+unfoldable pub minimumPeriod : ℕ → ℕ
+minimumPeriod kind = if eqb kind repoStyle then 5 else if eqb kind otherCapitalMarket then 10 else 20
+
+-- "Let n be the interval plus that minimum less 1": of a deal's collateral and of its goods lent. CRE22.64, N_R + (T_M − 1)
 unfoldable pub holdingPeriod : ℕ → ℕ → ℕ
 holdingPeriod kind interval = interval + minimumPeriod kind - 1
 
--- n, of the currency haircut of a guarantee, whatever the kind. CRE22.95
+-- "The currency haircut of a guarantee always uses n = interval + 9": a minimum of ten days for every kind. CRE22.95
 unfoldable pub guaranteePeriod : ℕ → ℕ
 guaranteePeriod interval = interval + 9

@@ -1,7 +1,7 @@
 // Scaling a haircut by the square root of time.
 ghost use mathlib.Core.Path.{_≡_};
 ghost use Prim.Native.Nat.{_≤_};
-ghost use Rattle.scaling.specs.Scaling.{scaled};
+ghost use Rattle.scaling.specs.Scaling.{scaled, IsScaled};
 
 // More than any scaled haircut within the bounds of `scaled_haircut`.
 const ABOVE_ALL: u64 = 16_777_216;
@@ -10,7 +10,7 @@ const ABOVE_ALL: u64 = 16_777_216;
 // low + width is not. Rounding up keeps the relief from being too large.
 pub fn scaled_haircut(haircut: u64, period: u64) -> u64
     requires { ⌜ (haircut ≤ 1000000) × (period ≤ 1000) ⌝ }
-    ensures { λ r. ⌜ r ≡ scaled haircut period ⌝ }
+    ensures { λ r. ⌜ (r ≡ scaled haircut period) × IsScaled haircut period r ⌝ }
 {
     let target = haircut * haircut * period;
     if target == 0 {

@@ -2,31 +2,32 @@
 use Prim.Native.Nat.{ℕ, _-_, _≤_, _<_}
 use mathlib.Core.Path.{_≡_, refl}
 use mathlib.Core.Bool.{Bool, true, _&&_}
-use mathlib.Core.List.{List, [], map}
+use mathlib.Core.List.{[]}
 use native.Mathlib.Omega.{arith}
 use lib.Dec.{leb, eqb}
 use lib.ListN.{getD}
 use borrow.Author.Tests.{leb-true, eqb-false}
+use Rattle.base.specs.Choice.{if_then_else_}
 use Rattle.base.proofs.Choice.{either}
 use Rattle.base.proofs.Every.{every, every-at}
 use Rattle.tables.specs.Eligibility.{eligible}
 use Rattle.tables.specs.Goods.{cash, sovereignDebt, securitisation, mainIndexEquity, otherListedEquity, gold}
-use Rattle.tables.specs.Haircuts.{debtHaircuts, rowOf, bandOf, columnOf, debtHaircut, haircut, lentHaircut}
-use Rattle.tables.specs.Weights.{weights, byStep, providerWeight, counterpartyWeight}
+use Rattle.tables.specs.Haircuts.{cell, rowOf, bandOf, columnOf as issuerColumn, debtHaircut, haircut, lentHaircut}
+use Rattle.tables.specs.Weights.{weights, columnOf, retail, tableWeight, providerWeight, counterpartyWeight}
 use Rattle.tables.proofs.Bands.{band-below}
 
 row-below : (step : ℕ) → rowOf step < 2
 unfolding rowOf
 row-below step = either (λ r. r < 2) (eqb step 1) (λ e. omega arith) (λ e. omega arith)
 
-column-below : (goods : ℕ) → columnOf goods < 3
-unfolding columnOf
+column-below : (goods : ℕ) → issuerColumn goods < 3
+unfolding issuerColumn
 column-below goods =
     either (λ c. c < 3) (eqb goods sovereignDebt) (λ e. omega arith)
     (λ e. either (λ c. c < 3) (eqb goods securitisation) (λ e. omega arith) (λ e. omega arith))
 
 abbrev small : ℕ → ℕ → ℕ → Bool
-small r b c = leb (getD (getD (getD debtHaircuts r []) b []) c 0) 250000
+small r b c = leb (cell r b c) 250000
 
 debt-bound : (goods step life : ℕ) → debtHaircut goods step life ≤ 250000
 unfolding debtHaircut
@@ -34,7 +35,7 @@ debt-bound goods step life =
     leb-true _ _
     (every-at 3 (small (rowOf step) (bandOf life))
     (every-at 3 (λ b. every 3 (small (rowOf step) b)) (every-at 2 (λ r. every 3 (λ b. every 3 (small r b))) refl (rowOf step) (row-below step)) (bandOf life) (band-below life))
-    (columnOf goods) (column-below goods))
+    (issuerColumn goods) (column-below goods))
 
 abbrev Low : ℕ → Type 0
 Low h = h ≤ 250000
@@ -54,15 +55,18 @@ lent-bound goods step life =
     either Low (eligible goods step 0) (λ e. haircut-bound goods step life) (λ e. omega arith)
 
 abbrev light : ℕ → ℕ → Bool
-light c s = leb (getD (getD (map byStep weights) c []) s 0) 150
+light c s = leb (getD (getD weights c []) (columnOf s) 0) 150
+
+table-bound : (class step : ℕ) → class ≤ 3 → step ≤ 6 → tableWeight class step ≤ 150
+unfolding tableWeight columnOf if_then_else_
+table-bound class step hc hs =
+    leb-true _ _ (every-at 7 (light (class - 1)) (every-at 3 (λ c. every 7 (light c)) refl (class - 1) (omega arith)) step (omega arith))
 
 pub provider-bound : (class step : ℕ) → class ≤ 3 → step ≤ 6 → providerWeight class step ≤ 150
 unfolding providerWeight
-provider-bound class step hc hs =
-    leb-true _ _ (every-at 7 (light (class - 1)) (every-at 3 (λ c. every 7 (light c)) refl (class - 1) (omega arith)) step (omega arith))
+provider-bound class step hc hs = table-bound class step hc hs
 
 pub counterparty-bound : (class step : ℕ) → class ≤ 4 → step ≤ 6 → counterpartyWeight class step ≤ 150
 unfolding counterpartyWeight
 counterparty-bound class step hc hs =
-    either (λ w. w ≤ 150) (eqb class 4) (λ e. omega arith)
-    (λ e. provider-bound class step (omega (arith, eqb-false class 4 e)) hs)
+    either (λ w. w ≤ 150) (eqb class retail) (λ e. omega arith) (λ e. table-bound class step (omega (arith, eqb-false class 4 e)) hs)

@@ -8,9 +8,9 @@ use borrow.Author.Tests.{leb-true, le-leb}
 use Rattle.base.specs.Choice.{if_then_else_}
 use Rattle.base.proofs.Every.{every, implies, both, implied, every-at}
 use Rattle.base.proofs.Tests.{and-true}
-use Rattle.tables.specs.Eligibility.{eligible, bankDebtEligible, within}
-use Rattle.tables.specs.Haircuts.{bandOf, rowOf, columnOf, debtHaircut, haircut, lentHaircut}
-use Rattle.tables.specs.Weights.{providerWeight}
+use Rattle.tables.specs.Eligibility.{eligible, bankDebtEligible, equityOrGold, within}
+use Rattle.tables.specs.Haircuts.{bandOf, rowOf, columnOf as issuerColumn, debtHaircut, haircut, lentHaircut}
+use Rattle.tables.specs.Weights.{columnOf, tableWeight, providerWeight}
 use Rattle.tables.specs.Table.{Table, TableLaws, Better, table2019}
 use Rattle.tables.proofs.Bands.{sample, band-below, haircut-sample, lent-sample}
 
@@ -92,5 +92,5 @@ module _
 
 -- THE TABLES OF 2019 HAVE THE LAWS
 pub lawful2019 : TableLaws table2019
-unfolding eligible bankDebtEligible within rowOf bandOf columnOf debtHaircut haircut lentHaircut providerWeight if_then_else_
+unfolding eligible bankDebtEligible equityOrGold within rowOf bandOf issuerColumn debtHaircut haircut lentHaircut columnOf tableWeight providerWeight if_then_else_
 lawful2019 = laws-from-test table2019 sample bandOf 3 band-below haircut-sample lent-sample refl

@@ -7,7 +7,7 @@ use lib.Dec.{leb}
 use borrow.Author.Tests.{le-leb}
 use Rattle.base.specs.Choice.{if_then_else_}
 use Rattle.base.proofs.Every.{every, implies, every-at, implied}
-use Rattle.tables.specs.Eligibility.{eligible, bankDebtEligible, within, excluded}
+use Rattle.tables.specs.Eligibility.{eligible, bankDebtEligible, equityOrGold, within, excluded}
 use Rattle.tables.specs.Table.{Goods}
 
 abbrev unlike : Bool → Bool → Bool
@@ -26,7 +26,7 @@ abbrev types : ℕ → Bool
 types g = implies (leb 1 g) (every 7 (λ s. every 2 (listed g s)))
 
 pub eligible-as-listed : (goods step k : ℕ) → Goods goods → step ≤ 6 → k ≤ 1 → eligible goods step k ≡ not (excluded goods step k)
-unfolding eligible bankDebtEligible within excluded if_then_else_
+unfolding eligible bankDebtEligible equityOrGold within excluded if_then_else_
 eligible-as-listed g s k hg hs hk =
     opposite _ _
     (every-at 2 (listed g s)

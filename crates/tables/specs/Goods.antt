@@ -1,4 +1,5 @@
--- Types of goods. 01: What a deal holds, "Goods types"
+-- Types of goods. 01: What a deal holds, "Goods types".
+-- A rating step is 1 AAA to AA−, 2 A+ to A−, 3 BBB+ to BBB−, 4 BB+ to BB−, 5 B+ to B−, 6 below B−, 0 unrated
 use Prim.Native.Nat.{ℕ}
 
 abbrev pub cash : ℕ
@@ -7,6 +8,7 @@ cash = 1
 abbrev pub sovereignDebt : ℕ
 sovereignDebt = 2
 
+-- debt of issuers other than sovereigns and banks
 abbrev pub otherDebt : ℕ
 otherDebt = 3
 

@@ -1,10 +1,11 @@
--- A set of tables, and what any such set must have so that betterments never raise the weighted amount. 01: Betterments
+-- The figures that depend on type, class and step, as one set, and laws of such a set that suffice for 01: Betterments:
+-- with them a better step, a listing or a better provider never raises the weighted amount
 use Prim.Native.Nat.{ℕ, _≤_}
 use mathlib.Core.Path.{_≡_}
 use mathlib.Core.Bool.{Bool, true}
-use Rattle.tables.specs.Eligibility.{eligible}
-use Rattle.tables.specs.Haircuts.{haircut, lentHaircut}
-use Rattle.tables.specs.Weights.{counterpartyWeight, providerWeight}
+use Rattle.tables.specs.Eligibility
+use Rattle.tables.specs.Haircuts
+use Rattle.tables.specs.Weights
 
 pub record Table : Type 0 where
   -- by type, step and the condition "listed senior bank paper"
@@ -19,11 +20,11 @@ pub record Table : Type 0 where
 -- CRE20 and CRE22, version of 2019
 abbrev pub table2019 : Table
 table2019 = record {
-  eligible = eligible;
-  haircut = haircut;
-  lentHaircut = lentHaircut;
-  counterpartyWeight = counterpartyWeight;
-  providerWeight = providerWeight;
+  eligible = Eligibility.eligible;
+  haircut = Haircuts.haircut;
+  lentHaircut = Haircuts.lentHaircut;
+  counterpartyWeight = Weights.counterpartyWeight;
+  providerWeight = Weights.providerWeight;
 }
 
 -- a type of goods

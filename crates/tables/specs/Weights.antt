@@ -1,11 +1,12 @@
--- Risk weights in percent. CRE20.4, CRE20.14 option 2, CRE20.17, CRE20.20 (retail); 01: Risk weights in percent
+-- Risk weights in percent. CRE20.4, CRE20.14 option 2, CRE20.17, CRE20.20; 01: Risk weights in percent.
+-- "The weight comes from class and step alone." Classes and steps outside the table are refused when a deal is opened
 use Prim.Native.Nat.{ℕ, _-_}
-use mathlib.Core.List.{List, [], _∷_, map}
+use mathlib.Core.List.{List, [], _∷_}
 use lib.Dec.{eqb}
-use lib.ListN.{getD, take}
+use lib.ListN.{getD}
 use Rattle.base.specs.Choice.{if_then_else_}
 
--- steps 1 to 6, then unrated; the rows: sovereign; bank; corporate and other entity
+-- a row each: 1 sovereign; 2 bank; 3 corporate, other entity. In a row: steps 1 to 6, unrated
 abbrev pub weights : List (List ℕ)
 weights =
     (0 ∷ 20 ∷ 50 ∷ 100 ∷ 100 ∷ 150 ∷ 100 ∷ [])
@@ -13,14 +14,20 @@ weights =
     ∷ (20 ∷ 50 ∷ 100 ∷ 100 ∷ 150 ∷ 150 ∷ 100 ∷ [])
     ∷ []
 
--- a row by step: step 0 is unrated, the last column
-abbrev pub byStep : List ℕ → List ℕ
-byStep row = getD row 6 0 ∷ take 6 row
+-- the column of a step; step 0 is unrated, the seventh
+unfoldable pub columnOf : ℕ → ℕ
+columnOf step = if eqb step 0 then 6 else step - 1
 
--- a protection provider of class 1 sovereign, 2 bank or securities firm, 3 other entity
+unfoldable pub tableWeight : ℕ → ℕ → ℕ
+tableWeight class step = getD (getD weights (class - 1) []) (columnOf step) 0
+
+-- a provider of protection: 1 sovereign, 2 bank or securities firm (CRE20.16), 3 other entity. CRE22.91(1)
 unfoldable pub providerWeight : ℕ → ℕ → ℕ
-providerWeight class step = getD (getD (map byStep weights) (class - 1) []) step 0
+providerWeight class step = tableWeight class step
 
--- a counterparty of class 1 sovereign, 2 bank, 3 corporate, 4 retail
+abbrev pub retail : ℕ
+retail = 4
+
+-- a counterparty: 1 sovereign, 2 bank, 3 corporate, 4 retail. "Retail is 75"
 unfoldable pub counterpartyWeight : ℕ → ℕ → ℕ
-counterpartyWeight class step = if eqb class 4 then 75 else providerWeight class step
+counterpartyWeight class step = if eqb class retail then 75 else tableWeight class step

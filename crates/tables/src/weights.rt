@@ -1,7 +1,7 @@
 // Risk weights in percent.
 ghost use mathlib.Core.Path.{_≡_};
 ghost use Prim.Native.Nat.{_≤_, _<_};
-ghost use Rattle.tables.specs.Weights.{providerWeight, counterpartyWeight};
+ghost use Rattle.tables.specs.Weights.{tableWeight, providerWeight, counterpartyWeight};
 
 pub const RETAIL_CLASS: u64 = 4;
 
@@ -14,12 +14,19 @@ const WEIGHTS: [[u64; 7]; 3] = [
     [100, 20, 50, 100, 100, 150, 150],
 ];
 
+fn table_weight(class: u64, step: u64) -> u64
+    requires { ⌜ (1 ≤ class) × ((class ≤ 3) × (step ≤ 6)) ⌝ }
+    ensures { λ r. ⌜ r ≡ tableWeight class step ⌝ }
+{
+    WEIGHTS[(class - 1) as usize][step as usize]
+}
+
 // The weight of a protection provider.
 pub fn provider_weight(class: u64, step: u64) -> u64
     requires { ⌜ (1 ≤ class) × ((class ≤ 3) × (step ≤ 6)) ⌝ }
     ensures { λ r. ⌜ r ≡ providerWeight class step ⌝ }
 {
-    WEIGHTS[(class - 1) as usize][step as usize]
+    table_weight(class, step)
 }
 
 // The weight of a deal's counterparty.
@@ -30,5 +37,5 @@ pub fn counterparty_weight(class: u64, step: u64) -> u64
     if class == RETAIL_CLASS {
         return RETAIL;
     }
-    provider_weight(class, step)
+    table_weight(class, step)
 }

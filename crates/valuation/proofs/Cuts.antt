@@ -1,4 +1,4 @@
--- The laws of an item's scaled haircuts. Assumes nothing.
+-- The laws of scaled haircuts. Assumes nothing.
 use Prim.Native.Nat.{ℕ, _≤_}
 use mathlib.Core.Path.{_≡_, refl}
 use native.Mathlib.Omega.{arith}
@@ -6,33 +6,53 @@ use native.Mathlib.Nat.{mul-le-mul}
 use lib.Dec.{eqb}
 use borrow.Author.Tests.{eq-eqb}
 use Rattle.base.proofs.Choice.{either, either₂, if-true}
+use Rattle.scaling.specs.Period.{holdingPeriod}
 use Rattle.scaling.specs.Scaling.{scaled}
+use Rattle.scaling.proofs.Periods.{period-mono, period-bound, guarantee-mono, guarantee-bound}
 use Rattle.scaling.proofs.Scaled.{scaled-mono, scaled-le}
-use Rattle.valuation.specs.Haircuts.{currencyCut, itemCut}
+use Rattle.valuation.specs.Haircuts.{currencyCut, collateralCut, guaranteeCut, lentCut}
 
--- a bound on whatever is scaled, for sums and products to fit
+-- ---- bounds, for sums and products to fit
 pub scaled-bound : {H n : ℕ} → H ≤ 1000000 → n ≤ 1000 → scaled H n ≤ 10000000
 scaled-bound {H} {n} hH hn = scaled-le H n {b = 10000000} (omega (arith, mul-le-mul (mul-le-mul hH hH) hn))
 
 pub currency-bound : (a b : ℕ) {n : ℕ} → n ≤ 1000 → currencyCut a b n ≤ 10000000
 unfolding currencyCut
-currency-bound a b {n} hn =
+currency-bound a b hn =
     either (λ c. c ≤ 10000000) (eqb a b) (λ e. omega arith) (λ e. scaled-bound (omega arith) hn)
 
--- a shorter period, no larger a haircut
-pub currency-mono : (a b : ℕ) {n n′ : ℕ} → n ≤ n′ → currencyCut a b n ≤ currencyCut a b n′
+pub lent-cut-bound : {H interval : ℕ} (kind : ℕ) → H ≤ 1000000 → interval ≤ 250 → lentCut H kind interval ≤ 10000000
+unfolding lentCut
+lent-cut-bound {H} {interval} kind hH hi =
+    scaled-bound hH (omega (arith, period-bound kind interval))
+
+-- ---- a smaller haircut, more frequent revaluation: no larger
+currency-mono : (a b : ℕ) {n n′ : ℕ} → n ≤ n′ → currencyCut a b n ≤ currencyCut a b n′
 unfolding currencyCut
 currency-mono a b h = either₂ _≤_ (eqb a b) (λ e. omega arith) (λ e. scaled-mono (omega arith) h)
 
--- the deal's own currency
-pub currency-same : (a n : ℕ) → currencyCut a a n ≡ 0
+pub collateral-mono : {H H′ i i′ : ℕ} (a b kind : ℕ) → H ≤ H′ → i ≤ i′ → collateralCut H a b kind i ≤ collateralCut H′ a b kind i′
+unfolding collateralCut
+collateral-mono a b kind p q =
+    omega (arith, scaled-mono p (period-mono kind q), currency-mono a b (period-mono kind q))
+
+pub guarantee-cut-mono : (a b : ℕ) {i i′ : ℕ} → i ≤ i′ → guaranteeCut a b i ≤ guaranteeCut a b i′
+unfolding guaranteeCut
+guarantee-cut-mono a b h = currency-mono a b (guarantee-mono h)
+
+pub lent-cut-mono : {H H′ i i′ : ℕ} (kind : ℕ) → H ≤ H′ → i ≤ i′ → lentCut H kind i ≤ lentCut H′ kind i′
+unfolding lentCut
+lent-cut-mono kind p q = scaled-mono p (period-mono kind q)
+
+-- ---- the deal's own currency: no larger
+currency-same : (b n : ℕ) → currencyCut b b n ≡ 0
 unfolding currencyCut
-currency-same a n = if-true _ _ _ (eq-eqb a a refl)
+currency-same b n = if-true _ _ _ (eq-eqb b b refl)
 
-pub item-mono : {H H′ n n′ : ℕ} (a b : ℕ) → H ≤ H′ → n ≤ n′ → itemCut H a b n ≤ itemCut H′ a b n′
-unfolding itemCut
-item-mono a b p q = omega (arith, scaled-mono p q, currency-mono a b q)
+pub collateral-same : (H a b kind i : ℕ) → collateralCut H b b kind i ≤ collateralCut H a b kind i
+unfolding collateralCut
+collateral-same H a b kind i = omega (arith, currency-same b (holdingPeriod kind i))
 
-pub item-same : (H a b n : ℕ) → itemCut H b b n ≤ itemCut H a b n
-unfolding itemCut
-item-same H a b n = omega (arith, currency-same b n)
+pub guarantee-same : (b i : ℕ) → guaranteeCut b b i ≡ 0
+unfolding guaranteeCut
+guarantee-same b i = currency-same b _

@@ -1,4 +1,4 @@
--- The value of recognised protection. 01: From items to the weighted amount, 1 and 2
+-- The value of protection that no ground leaves out. 01: From items to the weighted amount, 1 and 2
 use Prim.Native.Nat.{ℕ, _*_, _-_, _/_, min}
 use lib.Dec.{ltb}
 use Rattle.base.specs.Choice.{if_then_else_}
@@ -11,14 +11,18 @@ keepShare cut = 1000000 - cut
 unfoldable pub reduced : ℕ → ℕ → ℕ
 reduced amount cut = amount * keepShare cut / 1000000
 
--- "T the smaller of the deal's term and 1,800, and t the smaller of T and the cover's term": value × (t − 90) / (T − 90).
--- CRE22.97, CRE22.100
+-- "with T the smaller of the deal's term and 1,800, and t the smaller of T and the cover's term, the value becomes
+-- value × (t − 90) / (T − 90), rounded down again". CRE22.100; five years are 1,800 days, three months 90
 unfoldable pub mismatched : ℕ → ℕ → ℕ → ℕ
-mismatched value cover term = value * (min (min term 1800) cover - 90) / (min term 1800 - 90)
+mismatched value cover term =
+    let T = min term 1800 in
+    let t = min T cover in
+    value * (t - 90) / (T - 90)
 
--- "Cover shorter than the deal's residual term is a mismatch"
+-- "Cover shorter than the deal's residual term is a mismatch". CRE22.97
 unfoldable pub adjusted : ℕ → ℕ → ℕ → ℕ
 adjusted value cover term = if ltb cover term then mismatched value cover term else value
 
+-- haircuts first, then a mismatch. CRE22.100(2)
 unfoldable pub recognised : ℕ → ℕ → ℕ → ℕ → ℕ
 recognised amount cut cover term = adjusted (reduced amount cut) cover term

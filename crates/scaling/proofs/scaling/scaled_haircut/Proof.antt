@@ -4,7 +4,7 @@ use mathlib.Core.Path.{_≡_}
 use mathlib.Core.Logic.{⊎-elim}
 use native.Mathlib.Omega.{arith}
 use native.Mathlib.Nat.{mul-le-mul, le-trans}
-use Rattle.scaling.proofs.Scaled.{larger, scaled-by-step, scaled-le}
+use Rattle.scaling.proofs.Scaled.{larger, scaled-by-step, scaled-le, scaled-means}
 use Rattle.scaling.proofs.scaling.scaled_haircut.Statement.{statement}
 use Rattle.scaling.proofs.scaling.scaled_haircut.Tie as tie
 
@@ -39,7 +39,9 @@ mul-target-2 : tie.Need-mul-target-2 Inv-loop μ-loop
 mul-target-2 c = omega (arith, mul-le-mul (mul-le-mul (c .pre .0) (c .pre .0)) (c .pre .1))
 
 returns : tie.Need-returns Inv-loop μ-loop
-returns c = omega (arith, scaled-le (c .before .args .haircut) (c .before .args .period) {b = 0} (omega arith))
+returns c =
+    let a = c .before .args in
+    scaled-means (a .haircut) (a .period) (omega (arith, scaled-le (a .haircut) (a .period) {b = 0} (omega arith)))
 
 loop-holds : tie.Need-loop-holds Inv-loop μ-loop
 loop-holds c = omega (arith, mul-le-mul (mul-le-mul (c .before .pre .0) (c .before .pre .0)) (c .before .pre .1))
@@ -78,7 +80,7 @@ returns-2 c =
     let l = c .before .loop in
     let e : l .width ≡ 1 = omega arith in
     let a = c .before .before .before .args in
-    scaled-by-step (a .haircut) (a .period) (l .low) (l .inv .0) (rw e at (l .inv .1 .0))
+    scaled-means (a .haircut) (a .period) (scaled-by-step (a .haircut) (a .period) (l .low) (l .inv .0) (rw e at (l .inv .1 .0)))
 
 pub scaled-haircut-spec : {M : Type 1} → statement M
 scaled-haircut-spec =

@@ -5,13 +5,13 @@ use mathlib.Core.Logic.{⊎-elim, inl, inr}
 use native.Mathlib.Omega.{arith}
 use borrow.Author.Tests.{ne-eqb}
 use Rattle.base.specs.Choice.{if_then_else_}
-use Rattle.tables.specs.Eligibility.{eligible, bankDebtEligible, within}
-use Rattle.tables.proofs.Within.{inside, under, over}
+use Rattle.tables.specs.Eligibility.{eligible, bankDebtEligible, equityOrGold}
+use Rattle.tables.proofs.Within.{inside, under, over, equity-inside, equity-under, equity-over}
 use Rattle.tables.proofs.eligibility.eligible.Statement.{statement}
 use Rattle.tables.proofs.eligibility.eligible.Tie as tie
 
 -- a type that is not one of the first five
-other : (k s l : ℕ) → (k ≡ 1 → ⊥) → (k ≡ 2 → ⊥) → (k ≡ 3 → ⊥) → (k ≡ 4 → ⊥) → (k ≡ 5 → ⊥) → eligible k s l ≡ within 7 9 k
+other : (k s l : ℕ) → (k ≡ 1 → ⊥) → (k ≡ 2 → ⊥) → (k ≡ 3 → ⊥) → (k ≡ 4 → ⊥) → (k ≡ 5 → ⊥) → eligible k s l ≡ equityOrGold k
 unfolding eligible if_then_else_
 other k s l a b c d e = simp (ne-eqb k 1 a, ne-eqb k 2 b, ne-eqb k 3 c, ne-eqb k 4 d, ne-eqb k 5 e)
 
@@ -63,13 +63,13 @@ returns-10 : tie.Need-returns-10
 returns-10 c =
     let r = c .before .match .rest in
     sym
-    (other _ _ _ (r .0 .0 .0 .1) (r .0 .0 .1) (λ e. r .0 .1 (inl e)) (r .1) (λ e. r .0 .1 (inr e)) ∙ under 7 9 _ (omega arith))
+    (other _ _ _ (r .0 .0 .0 .1) (r .0 .0 .1) (λ e. r .0 .1 (inl e)) (r .1) (λ e. r .0 .1 (inr e)) ∙ equity-under _ (omega arith))
 
 returns-11 : tie.Need-returns-11
 returns-11 c =
     let r = c .before .before .match .rest in
     sym
-    (other _ _ _ (r .0 .0 .0 .1) (r .0 .0 .1) (λ e. r .0 .1 (inl e)) (r .1) (λ e. r .0 .1 (inr e)) ∙ over 7 9 _ (omega arith) (omega arith))
+    (other _ _ _ (r .0 .0 .0 .1) (r .0 .0 .1) (λ e. r .0 .1 (inl e)) (r .1) (λ e. r .0 .1 (inr e)) ∙ equity-over _ (omega arith))
 
 returns-12 : tie.Need-returns-12
 unfolding eligible if_then_else_
@@ -79,7 +79,7 @@ returns-13 : tie.Need-returns-13
 returns-13 c =
     let r = c .before .before .match .rest in
     sym
-    (other _ _ _ (r .0 .0 .0 .1) (r .0 .0 .1) (λ e. r .0 .1 (inl e)) (r .1) (λ e. r .0 .1 (inr e)) ∙ inside 7 9 _ (omega arith) (omega arith))
+    (other _ _ _ (r .0 .0 .0 .1) (r .0 .0 .1) (λ e. r .0 .1 (inl e)) (r .1) (λ e. r .0 .1 (inr e)) ∙ equity-inside _ (omega arith) (omega arith))
 
 pub eligible-spec : {M : Type 1} → statement M
 eligible-spec =

@@ -8,12 +8,12 @@ returns : tie.Need-returns
 unfolding counterpartyWeight
 returns c = search tests
 
-provider-weight-requires : tie.Need-provider-weight-requires
-provider-weight-requires c κs = search tests
+table-weight-requires : tie.Need-table-weight-requires
+table-weight-requires c κs = search tests
 
 returns-2 : tie.Need-returns-2
 unfolding counterpartyWeight
 returns-2 c = search tests
 
 pub counterparty-weight-spec : {M : Type 1} → statement M
-counterparty-weight-spec = tie.close (tie.spec returns provider-weight-requires returns-2)
+counterparty-weight-spec = tie.close (tie.spec returns table-weight-requires returns-2)

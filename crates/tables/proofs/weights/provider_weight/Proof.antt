@@ -4,25 +4,12 @@ use Rattle.tables.specs.Weights.{providerWeight}
 use Rattle.tables.proofs.weights.provider_weight.Statement.{statement}
 use Rattle.tables.proofs.weights.provider_weight.Tie as tie
 
-sub-result : tie.Need-sub-result
-sub-result c = search tests
-
-mul-result : tie.Need-mul-result
-mul-result c = search tests
-
-mul-result-2 : tie.Need-mul-result-2
-mul-result-2 c = search tests
-
-index-1-result : tie.Need-index-1-result
-index-1-result c = search tests
-
-index-2-result : tie.Need-index-2-result
-index-2-result c = search tests
+table-weight-requires : tie.Need-table-weight-requires
+table-weight-requires c κs = search tests
 
 returns : tie.Need-returns
 unfolding providerWeight
 returns c = search tests
 
 pub provider-weight-spec : {M : Type 1} → statement M
-provider-weight-spec =
-    tie.close (tie.spec sub-result mul-result mul-result-2 index-1-result index-2-result returns)
+provider-weight-spec = tie.close (tie.spec table-weight-requires returns)
