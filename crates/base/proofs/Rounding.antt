@@ -3,7 +3,7 @@ use Prim.Native.Nat.{ℕ, suc, _+_, _*_, _-_, _/_, _≤_, _<_}
 use mathlib.Core.Path.{_≡_}
 use mathlib.Core.Logic.{_⊎_, inl, inr}
 use native.Mathlib.Omega.{arith}
-use native.Mathlib.Nat.{le-trans, eq-zero-or-pos, le-div-iff-mul-le, div-lt-iff-lt-mul, div-mul-le-self, lt-div-mul-add, div-zero, div-le-of-le-mul, mul-le-mul-left, mul-le-mul-right, mul-comm}
+use native.Mathlib.Nat.{le-trans, eq-zero-or-pos, le-div-iff-mul-le, div-lt-iff-lt-mul, div-mul-le-self, lt-div-mul-add, div-zero, div-le-of-le-mul, mul-le-mul-left}
 use Rattle.base.specs.Least.{Least}
 use Rattle.base.specs.Rounding.{roundUp}
 
@@ -14,10 +14,6 @@ div-mono d {x} {y} h = go (eq-zero-or-pos d)
     go : (d ≡ 0) ⊎ (0 < d) → x / d ≤ y / d
     go (inl z) = simp (z, div-zero) (omega arith)
     go (inr p) = le-div-iff-mul-le p .1 (le-trans (div-mul-le-self x d) h)
-
--- a larger denominator
-pub div-anti : (x : ℕ) {d e : ℕ} → 0 < d → d ≤ e → x / e ≤ x / d
-div-anti x {d} {e} p h = le-div-iff-mul-le p .1 (le-trans (mul-le-mul-left (x / e) h) (div-mul-le-self x e))
 
 -- a share of at most the whole
 pub share-le : (x : ℕ) {n d : ℕ} → n ≤ d → x * n / d ≤ x

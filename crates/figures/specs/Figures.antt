@@ -4,8 +4,8 @@ use Prim.Native.Nat.{ℕ, _+_, _*_, _<_}
 use mathlib.Core.Path.{_≡_}
 use mathlib.Core.List.{List, [], _∷_}
 use Rattle.tables.specs.Goods.{cash, otherDebt, otherListedEquity}
-use Rattle.tables.specs.Haircuts.{haircut, lentHaircut}
-use Rattle.tables.specs.Weights.{retail, counterpartyWeight}
+use Rattle.tables.specs.Weights.{retail}
+use Rattle.tables.specs.Table.{table2019}
 use Rattle.scaling.specs.Period.{repoStyle, securedLending, holdingPeriod}
 use Rattle.scaling.specs.Scaling.{scaled}
 use Rattle.valuation.specs.Haircuts.{collateralCut, guaranteeCut, lentCut}
@@ -36,7 +36,7 @@ abroad = 840
 -- an amount of 1,000,000 in goods with no step and no issue life, pledged under secured lending with a term of 1,800 days
 abbrev pledged : ℕ → ℕ → ℕ → ℕ → ℕ
 pledged goods currency interval cover =
-    recognised 1000000 (collateralCut (haircut goods 0 0) currency home securedLending interval) cover 1800
+    recognised 1000000 (collateralCut (table2019 .haircut goods 0 0) currency home securedLending interval) cover 1800
 
 abbrev pub starred : List Figure
 starred =
@@ -47,11 +47,11 @@ starred =
     -- "H 10000, n 40: 20000 exactly"
     ∷ is (scaled 10000 40) 20000
     -- "Type 8, kind 3, interval 250: scaled haircut above 1,000,000, value 0"
-    ∷ above (scaled (haircut otherListedEquity 0 0) (holdingPeriod securedLending 250)) 1000000
+    ∷ above (scaled (table2019 .haircut otherListedEquity 0 0) (holdingPeriod securedLending 250)) 1000000
     ∷ is (pledged otherListedEquity home 250 1800) 0
     -- "Type 3, step 3, life 360: 20000; 361: 60000"
-    ∷ is (haircut otherDebt 3 360) 20000
-    ∷ is (haircut otherDebt 3 361) 60000
+    ∷ is (table2019 .haircut otherDebt 3 360) 20000
+    ∷ is (table2019 .haircut otherDebt 3 361) 60000
     -- "Same-currency cash 1,000,000 .. deal term 1,800: term 900 gives 473684; 91 gives 584"
     ∷ is (pledged cash home 1 900) 473684
     ∷ is (pledged cash home 1 91) 584
@@ -60,10 +60,10 @@ starred =
     -- "Guarantee 200,000 in another currency, interval 1, no mismatch: 184000"
     ∷ is (recognised 200000 (guaranteeCut abroad home 1) 1800 1800) 184000
     -- "Repo lending type 8, amount 100, interval 6: raised to 125"
-    ∷ is (raised 100 (lentCut (lentHaircut otherListedEquity 0 0) repoStyle 6)) 125
+    ∷ is (raised 100 (lentCut (table2019 .lentHaircut otherListedEquity 0 0) repoStyle 6)) 125
     -- "portions 40 and 60, weighted amount 8", at weights 20 and 0
     ∷ is (weighted (40 * 20 + 60 * 0)) 8
     -- "Retail, amount 1: weighted amount 1. Amount 0: 0"
-    ∷ is (weighted (1 * counterpartyWeight retail 0)) 1
-    ∷ is (weighted (0 * counterpartyWeight retail 0)) 0
+    ∷ is (weighted (1 * table2019 .counterpartyWeight retail 0)) 1
+    ∷ is (weighted (0 * table2019 .counterpartyWeight retail 0)) 0
     ∷ []

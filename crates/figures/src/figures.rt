@@ -43,6 +43,7 @@ fn scaling() {
     figure(b"kind 2, interval 1: n", holding_period(2, 1));
     figure(b"kind 3, interval 250: n", holding_period(3, 250));
     figure(b"guarantee, interval 1: n", guarantee_period(1));
+    figure(b"guarantee, interval 250: n", guarantee_period(250));
 }
 
 // Goods pledged under a deal in the home currency, of the same term.
@@ -107,10 +108,19 @@ fn mismatched() {
         b"cash 1000000, term 2700 of 3600",
         recognised(1_000_000, 0, 2_700, 3_600),
     );
-    // Both roundings: 886 of 1,000, then 419; at once it would be 420.
+    figure(
+        b"cash 1000000, term 300 of 600",
+        recognised(1_000_000, 0, 300, 600),
+    );
+    // Both roundings, haircut first: 886, then 419, where one rounding would leave 420; 31, then 14, where the mismatch
+    // first, or one rounding, would leave 15.
     figure(
         b"1000 cut by 113138, term 900 of 1800",
         recognised(1_000, 113_138, 900, 1_800),
+    );
+    figure(
+        b"36 cut by 113138, term 900 of 1800",
+        recognised(36, 113_138, 900, 1_800),
     );
 }
 
@@ -143,6 +153,10 @@ fn abroad() {
     figure(
         b"guarantee 200000 in another currency, interval 11",
         recognised(200_000, guarantee_cut(ABROAD, HOME, 11), 1_800, 1_800),
+    );
+    figure(
+        b"guarantee 200000 in another currency, interval 250",
+        recognised(200_000, guarantee_cut(ABROAD, HOME, 250), 1_800, 1_800),
     );
 }
 

@@ -11,10 +11,14 @@ pub raised-mono : {a a′ cut cut′ : ℕ} → a ≤ a′ → cut ≤ cut′ �
 unfolding raised
 raised-mono ha hc = roundUp-mono 1000000 (mul-le-mul ha (omega arith))
 
+-- rounded up: the least amount whose millionfold covers amount × (1,000,000 + cut)
+pub raised-is : (a cut : ℕ) → Least (λ m. a * (1000000 + cut) ≤ m * 1000000) (raised a cut)
+unfolding raised
+raised-is a cut = roundUp-is (a * (1000000 + cut)) 1000000 (omega arith)
+
 -- never below the amount
 pub raised-least : (a cut : ℕ) → a ≤ raised a cut
-unfolding raised
-raised-least a cut = omega (arith, roundUp-is (a * (1000000 + cut)) 1000000 (omega arith) .passes)
+raised-least a cut = omega (arith, raised-is a cut .passes)
 
 pub weighted-mono : {x y : ℕ} → x ≤ y → weighted x ≤ weighted y
 unfolding weighted

@@ -5,12 +5,19 @@ use native.Mathlib.Omega.{arith}
 use native.Mathlib.Nat.{mul-le-mul}
 use lib.Dec.{eqb}
 use borrow.Author.Tests.{eq-eqb}
+use Rattle.base.specs.Choice.{if_then_else_}
+use Rattle.base.specs.Least.{least, between}
 use Rattle.base.proofs.Choice.{either, either₂, if-true}
-use Rattle.scaling.specs.Period.{holdingPeriod}
+use Rattle.scaling.specs.Period.{securedLending, minimumPeriod, holdingPeriod}
 use Rattle.scaling.specs.Scaling.{scaled}
 use Rattle.scaling.proofs.Periods.{period-mono, period-bound, guarantee-mono, guarantee-bound}
 use Rattle.scaling.proofs.Scaled.{scaled-mono, scaled-le}
 use Rattle.valuation.specs.Haircuts.{currencyCut, collateralCut, guaranteeCut, lentCut}
+
+-- each haircut is scaled by itself: the sum of 20000 and 80000 scaled to 20 days would be 141422, one too few
+each-by-itself : collateralCut 20000 840 978 securedLending 1 ≡ 141423
+unfolding collateralCut currencyCut holdingPeriod minimumPeriod scaled least between if_then_else_
+each-by-itself = refl
 
 -- ---- bounds, for sums and products to fit
 pub scaled-bound : {H n : ℕ} → H ≤ 1000000 → n ≤ 1000 → scaled H n ≤ 10000000

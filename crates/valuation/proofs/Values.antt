@@ -1,11 +1,11 @@
 -- The laws of a recognised value. Assumes nothing.
-use Prim.Native.Nat.{ℕ, _*_, _-_, _/_, _≤_, _<_, min}
+use Prim.Native.Nat.{ℕ, _+_, _*_, _-_, _/_, _≤_, _<_, min}
 use mathlib.Core.Path.{_≡_, _∙_}
 use native.Mathlib.Omega.{arith}
 use native.Mathlib.Nat.{le-trans, mul-le-mul, mul-zero, zero-div}
 use lib.Dec.{ltb}
-use borrow.Author.Tests.{ltb-true, ltb-false, lt-ltb}
-use Rattle.base.proofs.Choice.{either, if-true}
+use borrow.Author.Tests.{ltb-true, ltb-false, lt-ltb, le-ltb}
+use Rattle.base.proofs.Choice.{either, if-true, if-false}
 use Rattle.base.proofs.Rounding.{div-mono, share-le}
 use Rattle.valuation.specs.Protection.{keepShare, reduced, mismatched, adjusted, recognised}
 
@@ -22,6 +22,11 @@ reduced-mono ha hc = div-mono 1000000 (mul-le-mul ha (omega arith))
 pub reduced-le : (a cut : ℕ) → reduced a cut ≤ a
 unfolding reduced
 reduced-le a cut = share-le a (share-bound cut)
+
+-- rounded down: the largest value whose millionfold is within amount × share
+pub reduced-is : (a cut : ℕ) → (reduced a cut * 1000000 ≤ a * keepShare cut) × (a * keepShare cut < (reduced a cut + 1) * 1000000)
+unfolding reduced
+reduced-is a cut = omega arith
 
 -- haircuts that reach the whole leave nothing
 pub reduced-none : (a cut : ℕ) → 1000000 ≤ cut → reduced a cut ≡ 0
@@ -44,6 +49,19 @@ unfolding adjusted mismatched
 adjusted-none v cover term short h =
     let e : min (min term 1800) cover - 90 ≡ 0 = omega arith in
     if-true _ _ _ (lt-ltb cover term short) ∙ rw (e, mul-zero, zero-div)
+
+-- cover as long as the deal is worth its whole value
+pub adjusted-matched : (v cover term : ℕ) → term ≤ cover → adjusted v cover term ≡ v
+unfolding adjusted
+adjusted-matched v cover term h = if-false _ _ _ (le-ltb cover term h)
+
+-- shorter cover of a deal within five years
+pub adjusted-short : (v cover term : ℕ) → cover < term → term ≤ 1800 → adjusted v cover term ≡ v * (cover - 90) / (term - 90)
+unfolding adjusted mismatched
+adjusted-short v cover term short h =
+    let e : min term 1800 ≡ term = omega arith in
+    let f : min term cover ≡ cover = omega arith in
+    if-true _ _ _ (lt-ltb cover term short) ∙ rw (e, f)
 
 pub adjusted-le : (v cover term : ℕ) → adjusted v cover term ≤ v
 unfolding adjusted

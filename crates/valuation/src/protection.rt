@@ -15,10 +15,10 @@ const LONGEST: u64 = 1_800;
 pub fn keep_share(cut: u64) -> u64
     ensures { λ r. ⌜ r ≡ keepShare cut ⌝ }
 {
-    if cut >= WHOLE {
-        return 0;
+    if cut < WHOLE {
+        return WHOLE - cut;
     }
-    WHOLE - cut
+    0
 }
 
 // The amount after haircuts, rounded down.
