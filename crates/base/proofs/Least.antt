@@ -1,12 +1,18 @@
 -- The laws of the least number that passes a test. Assumes nothing.
-use Prim.Native.Nat.{ℕ, zero, suc, _+_, _-_, _/_, _≤_, _<_}
+use Prim.Native.Nat.{ℕ, zero, suc, _+_, _/_, _≤_, _<_}
 use mathlib.Core.Path.{_≡_, refl}
 use mathlib.Core.Bool.{Bool, true, false}
 use native.Mathlib.Omega.{arith}
 use lib.Dec.{leb}
 use borrow.Author.Tests.{leb-true, leb-false}
+use Rattle.base.specs.Choice.{if_then_else_}
 use Rattle.base.specs.Least.{Least, between, least}
 use Rattle.base.proofs.Choice.{either, never}
+
+-- the least number that is at least 5
+at-least-five : least (leb 5) 9 ≡ 5
+unfolding least between if_then_else_
+at-least-five = refl
 
 -- where a second condition implies the first, its least number is no smaller
 pub least-mono : {P Q : ℕ → Type 0} {h k : ℕ} → ((n : ℕ) → Q n → P n) → Least P h → Least Q k → h ≤ k

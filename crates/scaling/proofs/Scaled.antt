@@ -1,7 +1,6 @@
 -- The laws of a scaled haircut, for every haircut H and every period n. Assumes nothing.
 use Prim.Native.Nat.{ℕ, zero, suc, _+_, _*_, _≤_, _<_}
 use mathlib.Core.Path.{_≡_}
-use mathlib.Core.Bool.{true}
 use native.Mathlib.Omega.{arith}
 use native.Mathlib.Nat.{le-trans, mul-le-mul, mul-le-mul-left, le-mul-of-pos-right}
 use native.Mathlib.Decide.{decLe}
@@ -46,6 +45,10 @@ scaled-mono {H} {H′} {n} {n′} p q =
 -- a bound that is enough
 pub scaled-le : (H n : ℕ) {b : ℕ} → H * H * n ≤ 10 * b * b → scaled H n ≤ b
 scaled-le H n e = scaled-is H n .lowest _ e
+
+-- a bound for sums and products to fit
+pub scaled-bound : {H n : ℕ} → H ≤ 1000000 → n ≤ 1000 → scaled H n ≤ 10000000
+scaled-bound {H} {n} hH hn = scaled-le H n {b = 10000000} (omega (arith, mul-le-mul (mul-le-mul hH hH) hn))
 
 -- what equals it is the least, too
 pub scaled-means : (H n : ℕ) {h : ℕ} → h ≡ scaled H n → (h ≡ scaled H n) × IsScaled H n h

@@ -1,13 +1,12 @@
 -- A haircut depends on the issue life by its band alone. Assumes nothing.
 use Prim.Native.Nat.{ℕ, zero, suc, _<_}
-use mathlib.Core.Path.{_≡_, refl, sym}
-use mathlib.Core.Bool.{true}
+use mathlib.Core.Path.{_≡_, refl}
 use native.Mathlib.Omega.{arith}
 use lib.Dec.{leb, eqb}
 use borrow.Author.Tests.{eqb-true}
 use Rattle.base.specs.Choice.{if_then_else_}
 use Rattle.base.proofs.Choice.{either}
-use Rattle.base.proofs.Every.{every, every-at}
+use Rattle.base.proofs.Every.{every-at}
 use Rattle.tables.specs.Haircuts.{bandOf, debtHaircut, haircut, lentHaircut}
 
 pub band-below : (life : ℕ) → bandOf life < 3

@@ -1,7 +1,7 @@
 -- Bounds of the figures, whatever the arguments: what the sums and products above them need to fit. Assumes nothing.
 use Prim.Native.Nat.{ℕ, _-_, _≤_, _<_}
-use mathlib.Core.Path.{_≡_, refl}
-use mathlib.Core.Bool.{Bool, true, _&&_}
+use mathlib.Core.Path.{refl}
+use mathlib.Core.Bool.{Bool, _&&_}
 use mathlib.Core.List.{[]}
 use native.Mathlib.Omega.{arith}
 use lib.Dec.{leb, eqb}

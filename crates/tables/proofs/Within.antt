@@ -5,7 +5,7 @@ use mathlib.Core.Bool.{Bool, true, false}
 use native.Mathlib.Omega.{arith}
 use lib.Dec.{leb}
 use borrow.Author.Tests.{le-leb, lt-leb, ne-eqb}
-use Rattle.base.proofs.Every.{every, implies, every-at, implied}
+use Rattle.base.proofs.Every.{implies, every-at, implied}
 use Rattle.tables.specs.Eligibility.{within, equityOrGold}
 
 module _ (first last x : ℕ) where

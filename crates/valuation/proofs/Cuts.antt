@@ -2,7 +2,6 @@
 use Prim.Native.Nat.{ℕ, _≤_}
 use mathlib.Core.Path.{_≡_, refl}
 use native.Mathlib.Omega.{arith}
-use native.Mathlib.Nat.{mul-le-mul}
 use lib.Dec.{eqb}
 use borrow.Author.Tests.{eq-eqb}
 use Rattle.base.specs.Choice.{if_then_else_}
@@ -10,8 +9,8 @@ use Rattle.base.specs.Least.{least, between}
 use Rattle.base.proofs.Choice.{either, either₂, if-true}
 use Rattle.scaling.specs.Period.{securedLending, minimumPeriod, holdingPeriod}
 use Rattle.scaling.specs.Scaling.{scaled}
-use Rattle.scaling.proofs.Periods.{period-mono, period-bound, guarantee-mono, guarantee-bound}
-use Rattle.scaling.proofs.Scaled.{scaled-mono, scaled-le}
+use Rattle.scaling.proofs.Periods.{period-mono, period-bound, guarantee-mono}
+use Rattle.scaling.proofs.Scaled.{scaled-mono, scaled-bound}
 use Rattle.valuation.specs.Haircuts.{currencyCut, collateralCut, guaranteeCut, lentCut}
 
 -- each haircut is scaled by itself: the sum of 20000 and 80000 scaled to 20 days would be 141422, one too few
@@ -20,9 +19,6 @@ unfolding collateralCut currencyCut holdingPeriod minimumPeriod scaled least bet
 each-by-itself = refl
 
 -- ---- bounds, for sums and products to fit
-pub scaled-bound : {H n : ℕ} → H ≤ 1000000 → n ≤ 1000 → scaled H n ≤ 10000000
-scaled-bound {H} {n} hH hn = scaled-le H n {b = 10000000} (omega (arith, mul-le-mul (mul-le-mul hH hH) hn))
-
 pub currency-bound : (a b : ℕ) {n : ℕ} → n ≤ 1000 → currencyCut a b n ≤ 10000000
 unfolding currencyCut
 currency-bound a b hn =

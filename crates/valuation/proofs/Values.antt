@@ -1,6 +1,6 @@
 -- The laws of a recognised value. Assumes nothing.
 use Prim.Native.Nat.{ℕ, _+_, _*_, _-_, _/_, _≤_, _<_, min}
-use mathlib.Core.Path.{_≡_, _∙_}
+use mathlib.Core.Path.{_≡_, refl, _∙_}
 use native.Mathlib.Omega.{arith}
 use native.Mathlib.Nat.{le-trans, mul-le-mul, mul-zero, zero-div}
 use lib.Dec.{ltb}
@@ -8,6 +8,11 @@ use borrow.Author.Tests.{ltb-true, ltb-false, lt-ltb, le-ltb}
 use Rattle.base.proofs.Choice.{either, if-true, if-false}
 use Rattle.base.proofs.Rounding.{div-mono, share-le}
 use Rattle.valuation.specs.Protection.{keepShare, reduced, mismatched, adjusted, recognised}
+
+-- rounded down: of an amount of 1 a haircut of a millionth leaves nothing, where rounding up would leave 1
+rounds-down : reduced 1 1 ≡ 0
+unfolding reduced keepShare
+rounds-down = refl
 
 pub share-bound : (cut : ℕ) → keepShare cut ≤ 1000000
 unfolding keepShare

@@ -2,8 +2,9 @@
 use Prim.Native.Nat.{_≤_}
 use native.Mathlib.Omega.{arith}
 use Rattle.base.proofs.Tests.{tests}
+use Rattle.scaling.proofs.Scaled.{scaled-bound}
 use Rattle.scaling.proofs.Periods.{period-bound}
-use Rattle.valuation.proofs.Cuts.{scaled-bound, currency-bound}
+use Rattle.valuation.proofs.Cuts.{currency-bound}
 use Rattle.valuation.specs.Haircuts.{collateralCut}
 use Rattle.valuation.proofs.haircuts.collateral_cut.Statement.{statement}
 use Rattle.valuation.proofs.haircuts.collateral_cut.Tie as tie

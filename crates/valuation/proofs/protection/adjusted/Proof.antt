@@ -1,6 +1,6 @@
 -- `valuation::protection::adjusted` meets its contract. Assumes nothing.
-use Prim.Native.Nat.{_-_, _≤_}
-use mathlib.Core.Path.{sym}
+use Prim.Native.Nat.{_-_, _≤_, min}
+use mathlib.Core.Path.{_≡_, sym}
 use native.Mathlib.Omega.{arith}
 use native.Mathlib.Nat.{mul-le-mul}
 use borrow.Author.Tests.{lt-ltb}
@@ -44,7 +44,10 @@ div-result c = search tests
 returns-3 : tie.Need-returns-3
 unfolding adjusted mismatched
 returns-3 c =
-    rw (c .smaller2 .ensures, c .before .smaller .ensures, if-true _ _ _ (lt-ltb _ _ (c .before .before .before .if1 .left)))
+    let a = c .before .before .before .before .args in
+    let T : c .before .smaller .result ≡ min (a .term) 1800 = omega arith in
+    let t : c .smaller2 .result ≡ min (min (a .term) 1800) (a .cover) = omega arith in
+    rw (t, T, if-true _ _ _ (lt-ltb _ _ (c .before .before .before .if1 .left)))
 
 pub adjusted-spec : {M : Type 1} → statement M
 adjusted-spec =

@@ -1,9 +1,10 @@
 -- `valuation::protection::recognised` meets its contract. Assumes nothing.
-use mathlib.Core.Path.{_∙_}
+use Prim.Native.Nat.{ℕ}
+use mathlib.Core.Path.{_∙_, ap}
 use native.Mathlib.Omega.{arith}
 use Rattle.base.proofs.Tests.{tests}
 use Rattle.valuation.proofs.Values.{reduced-le}
-use Rattle.valuation.specs.Protection.{recognised}
+use Rattle.valuation.specs.Protection.{adjusted, recognised}
 use Rattle.valuation.proofs.protection.recognised.Statement.{statement}
 use Rattle.valuation.proofs.protection.recognised.Tie as tie
 
@@ -15,7 +16,9 @@ adjusted-requires c κs = omega (arith, reduced-le (c .before .args .amount) (c 
 
 returns : tie.Need-returns
 unfolding recognised
-returns c = c .adjusted .ensures ∙ rw (c .before .reduced .ensures)
+returns c =
+    let a = c .before .before .args in
+    c .adjusted .ensures ∙ ap (λ (v : ℕ). adjusted v (a .cover) (a .term)) (c .before .reduced .ensures)
 
 pub recognised-spec : {M : Type 1} → statement M
 recognised-spec = tie.close (tie.spec reduced-requires adjusted-requires returns)
