@@ -2,4 +2,8 @@ pub mod Choice
 pub mod Tests
 pub mod Least
 pub mod Every
+pub mod All
+pub mod Arrays
+pub mod FirstMet
+pub mod Range
 pub mod Rounding

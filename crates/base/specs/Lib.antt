@@ -1,3 +1,6 @@
+pub mod All
 pub mod Choice
+pub mod FirstMet
 pub mod Least
+pub mod Range
 pub mod Rounding

@@ -6,9 +6,10 @@ use native.Mathlib.Omega.{arith}
 use lib.Dec.{leb}
 use borrow.Author.Tests.{leb-true, le-leb}
 use Rattle.base.specs.Choice.{if_then_else_}
+use Rattle.base.specs.Range.{within}
 use Rattle.base.proofs.Every.{every, implies, both, implied, every-at}
 use Rattle.base.proofs.Tests.{and-true}
-use Rattle.tables.specs.Eligibility.{eligible, bankDebtEligible, equityOrGold, within}
+use Rattle.tables.specs.Eligibility.{eligible, bankDebtEligible, equityOrGold}
 use Rattle.tables.specs.Haircuts.{bandOf, rowOf, columnOf as issuerColumn, debtHaircut, haircut, lentHaircut}
 use Rattle.tables.specs.Weights.{columnOf, tableWeight, providerWeight}
 use Rattle.tables.specs.Table.{Table, TableLaws, Better, table2019}

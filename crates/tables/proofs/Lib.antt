@@ -1,4 +1,4 @@
-pub mod Within
+pub mod Equity
 pub mod Listed
 pub mod ByStep
 pub mod Bands

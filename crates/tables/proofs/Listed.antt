@@ -6,8 +6,9 @@ use native.Mathlib.Omega.{arith}
 use lib.Dec.{leb}
 use borrow.Author.Tests.{le-leb}
 use Rattle.base.specs.Choice.{if_then_else_}
+use Rattle.base.specs.Range.{within}
 use Rattle.base.proofs.Every.{every, implies, every-at, implied}
-use Rattle.tables.specs.Eligibility.{eligible, bankDebtEligible, equityOrGold, within, excluded}
+use Rattle.tables.specs.Eligibility.{eligible, bankDebtEligible, equityOrGold, excluded}
 use Rattle.tables.specs.Table.{Goods}
 
 abbrev unlike : Bool → Bool → Bool

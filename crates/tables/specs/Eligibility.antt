@@ -3,13 +3,10 @@
 -- at steps 0 to 6, those eligible are all but those excluded
 use Prim.Native.Nat.{ℕ}
 use mathlib.Core.Bool.{Bool, true, false, not, _&&_, _||_}
-use lib.Dec.{leb, ltb, eqb}
+use lib.Dec.{ltb, eqb}
 use Rattle.base.specs.Choice.{if_then_else_}
+use Rattle.base.specs.Range.{within}
 use Rattle.tables.specs.Goods.{cash, sovereignDebt, otherDebt, bankDebt, securitisation, resecuritisation, mainIndexEquity, otherListedEquity, gold}
-
--- a number from the first to the last named, both included
-unfoldable pub within : ℕ → ℕ → ℕ → Bool
-within first last x = leb first x && leb x last
 
 -- bank debt is eligible unrated too, where it is listed senior paper. CRE22.37(4)
 unfoldable pub bankDebtEligible : ℕ → ℕ → Bool

@@ -5,8 +5,9 @@ use mathlib.Core.Logic.{⊎-elim, inl, inr}
 use native.Mathlib.Omega.{arith}
 use borrow.Author.Tests.{ne-eqb}
 use Rattle.base.specs.Choice.{if_then_else_}
+use Rattle.base.proofs.Range.{inside, under, over}
 use Rattle.tables.specs.Eligibility.{eligible, bankDebtEligible, equityOrGold}
-use Rattle.tables.proofs.Within.{inside, under, over, equity-inside, equity-under, equity-over}
+use Rattle.tables.proofs.Equity.{equity-inside, equity-under, equity-over}
 use Rattle.tables.proofs.eligibility.eligible.Statement.{statement}
 use Rattle.tables.proofs.eligibility.eligible.Tie as tie
 

@@ -1,25 +1,12 @@
--- What the range tests of eligibility come to. Assumes nothing.
+-- Types 7, 8 and 9, which the code takes as a range. Assumes nothing.
 use Prim.Native.Nat.{ℕ, _≤_, _<_}
 use mathlib.Core.Path.{_≡_, refl}
 use mathlib.Core.Bool.{Bool, true, false}
 use native.Mathlib.Omega.{arith}
 use lib.Dec.{leb}
-use borrow.Author.Tests.{le-leb, lt-leb, ne-eqb}
+use borrow.Author.Tests.{le-leb, ne-eqb}
 use Rattle.base.proofs.Every.{implies, every-at, implied}
-use Rattle.tables.specs.Eligibility.{within, equityOrGold}
-
-module _ (first last x : ℕ) where
-  pub inside : first ≤ x → x ≤ last → within first last x ≡ true
-  unfolding within
-  inside h k = simp (le-leb first x h, le-leb x last k)
-
-  pub under : x < first → within first last x ≡ false
-  unfolding within
-  under h = simp (lt-leb first x h)
-
-  pub over : first ≤ x → last < x → within first last x ≡ false
-  unfolding within
-  over h k = simp (le-leb first x h, lt-leb x last k)
+use Rattle.tables.specs.Eligibility.{equityOrGold}
 
 abbrev equity : ℕ → Bool
 equity k = implies (leb 7 k) (equityOrGold k)

@@ -1,0 +1,84 @@
+-- What the operations keep: an accepted opening is an accepted record, an accepted addition to one is one again, and a
+-- refused addition leaves an equal deal. Assumes nothing.
+use Prim.Native.Nat.{_+_, _<_}
+use mathlib.Core.Path.{_≡_, refl}
+use mathlib.Core.Bool.{true, false, not, _&&_}
+use native.Mathlib.Omega.{arith}
+use lib.Dec.{leb, eqb}
+use borrow.Author.Tests.{le-leb, leb-false, eq-eqb}
+use Rattle.base.specs.All.{all}
+use Rattle.base.proofs.Choice.{if-true, if-false}
+use Rattle.base.proofs.Every.{both}
+use Rattle.base.proofs.All.{all-set}
+use Rattle.base.proofs.FirstMet.{none-exactly, none-met}
+use Rattle.base.proofs.Tests.{and-true, told-not-true}
+use Rattle.deal.specs.Terms.{termsRefusal}
+use Rattle.deal.specs.Items.{collateralTests, collateralRefusal, collateralAccepted, guaranteeTests, guaranteeRefusal, guaranteesAccepted, pushCollateral, pushGuarantee, listLimit}
+use Rattle.deal.specs.Deals.{accepted, openedOn, withoutProtection, addCollateralTests, addCollateralRefusal, withCollateral, addGuaranteeTests, addGuaranteeRefusal, withGuarantee}
+use Rattle.deal.specs.declared.terms.Terms.{Terms}
+use Rattle.deal.specs.declared.collateral.Collateral.{Collateral}
+use Rattle.deal.specs.declared.guarantee.Guarantee.{Guarantee}
+use Rattle.deal.specs.declared.deal.Deal.{Deal}
+
+-- Opening
+
+pub new-accepted : (t : Terms) → termsRefusal t ≡ 0 → accepted (openedOn t) ≡ true
+unfolding accepted openedOn collateralAccepted guaranteesAccepted
+new-accepted t e =
+    let q = eq-eqb (termsRefusal t) 0 e in
+    rw (if-true _ (withoutProtection t) _ q, q)
+
+-- Adding collateral
+
+module _ (d : Deal) (c : Collateral) where
+  pub collateral-refused : eqb (addCollateralRefusal d c) 0 ≡ false → withCollateral d c ≡ d
+  unfolding withCollateral
+  collateral-refused e = if-false _ _ _ e
+
+  pub collateral-added : addCollateralRefusal d c ≡ 0 → withCollateral d c ≡ record { terms = d .terms; collateral = pushCollateral (d .collateral) c; guarantees = d .guarantees }
+  unfolding withCollateral
+  collateral-added e = if-true _ _ _ (eq-eqb _ 0 e)
+
+  -- what an addition that is not refused tells
+  collateral-fits : addCollateralRefusal d c ≡ 0 → (accepted d ≡ true) × (d .collateral .count < listLimit) × (collateralRefusal c ≡ 0)
+  unfolding addCollateralRefusal addCollateralTests collateralTests collateralRefusal
+  collateral-fits e =
+      let n = none-exactly (addCollateralTests d c) refl e in
+      (told-not-true (accepted d) (accepted d) refl (n .0), leb-false _ _ (n .1 .0), none-met (collateralTests c) (n .1 .1))
+
+  pub collateral-added-accepted : addCollateralRefusal d c ≡ 0 → accepted (withCollateral d c) ≡ true
+  unfolding accepted collateralAccepted
+  collateral-added-accepted e =
+      let f = collateral-fits e in
+      let a = both _ (guaranteesAccepted (d .guarantees)) (f .0) in
+      let b = both (eqb (termsRefusal (d .terms)) 0) _ (a .0) in
+      let l = both (leb (d .collateral .count) listLimit) _ (b .1) in
+      let more = all-set (λ x. eqb (collateralRefusal x) 0) (d .collateral .count) (d .collateral .items) c (l .1) (eq-eqb _ 0 (f .2)) in
+      rw (collateral-added e) (and-true _ _ (and-true _ _ (b .0) (and-true _ _ (le-leb (d .collateral .count + 1) listLimit (omega (arith, f .1))) more)) (a .1))
+
+-- Adding a guarantee
+
+module _ (d : Deal) (g : Guarantee) where
+  pub guarantee-refused : eqb (addGuaranteeRefusal d g) 0 ≡ false → withGuarantee d g ≡ d
+  unfolding withGuarantee
+  guarantee-refused e = if-false _ _ _ e
+
+  pub guarantee-added : addGuaranteeRefusal d g ≡ 0 → withGuarantee d g ≡ record { terms = d .terms; collateral = d .collateral; guarantees = pushGuarantee (d .guarantees) g }
+  unfolding withGuarantee
+  guarantee-added e = if-true _ _ _ (eq-eqb _ 0 e)
+
+  -- what an addition that is not refused tells
+  guarantee-fits : addGuaranteeRefusal d g ≡ 0 → (accepted d ≡ true) × (d .guarantees .count < listLimit) × (guaranteeRefusal g ≡ 0)
+  unfolding addGuaranteeRefusal addGuaranteeTests guaranteeTests guaranteeRefusal
+  guarantee-fits e =
+      let n = none-exactly (addGuaranteeTests d g) refl e in
+      (told-not-true (accepted d) (accepted d) refl (n .0), leb-false _ _ (n .1 .0), none-met (guaranteeTests g) (n .1 .1))
+
+  pub guarantee-added-accepted : addGuaranteeRefusal d g ≡ 0 → accepted (withGuarantee d g) ≡ true
+  unfolding accepted guaranteesAccepted
+  guarantee-added-accepted e =
+      let f = guarantee-fits e in
+      let a = both (eqb (termsRefusal (d .terms)) 0 && collateralAccepted (d .collateral)) _ (f .0) in
+      let l = both (leb (d .guarantees .count) listLimit) _ (a .1) in
+      let more = all-set (λ x. eqb (guaranteeRefusal x) 0) (d .guarantees .count) (d .guarantees .items) g (l .1) (eq-eqb _ 0 (f .2)) in
+      rw (guarantee-added e) (and-true _ _ (a .0) (and-true _ _ (le-leb (d .guarantees .count + 1) listLimit (omega (arith, f .1))) more))

@@ -1,0 +1,15 @@
+-- `deal::answer::Answer::is_accepted` meets its contract. Assumes nothing.
+use Rattle.base.proofs.Tests.{tests}
+use Rattle.deal.proofs.answer.Answer.is_accepted.Statement.{statement}
+use Rattle.deal.proofs.answer.Answer.is_accepted.Tie as tie
+
+-- src/answer.rt:41:9
+number-requires : tie.Need-number-requires
+number-requires c κs = search tests
+
+-- src/answer.rt:38:5
+returns : tie.Need-returns
+returns c = rw (c .number .ensures)
+
+pub is-accepted-spec : {M : Type 1} → statement M
+is-accepted-spec = tie.close (tie.spec number-requires returns)

@@ -1,0 +1,26 @@
+-- `deal::asset::Asset::life_allowed` meets its contract. Assumes nothing.
+use Rattle.base.proofs.Tests.{tests, told}
+use Rattle.deal.specs.Assets.{lifeAllowed}
+use Rattle.deal.proofs.asset.Asset.life_allowed.Statement.{statement}
+use Rattle.deal.proofs.asset.Asset.life_allowed.Tie as tie
+
+-- src/asset.rt:44:12
+is-debt-requires : tie.Need-is-debt-requires
+is-debt-requires c κs = search tests
+
+-- src/asset.rt:45:13
+days-allowed-requires : tie.Need-days-allowed-requires
+days-allowed-requires c κs = search tests
+
+-- src/asset.rt:45:13
+returns : tie.Need-returns
+unfolding lifeAllowed
+returns c = search (tests, told)
+
+-- src/asset.rt:41:5
+returns-2 : tie.Need-returns-2
+unfolding lifeAllowed
+returns-2 c = search (tests, told)
+
+pub life-allowed-spec : {M : Type 1} → statement M
+life-allowed-spec = tie.close (tie.spec is-debt-requires days-allowed-requires returns returns-2)

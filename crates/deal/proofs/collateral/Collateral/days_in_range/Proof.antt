@@ -1,0 +1,25 @@
+-- `deal::collateral::Collateral::days_in_range` meets its contract. Assumes nothing.
+use Rattle.base.proofs.Tests.{tests, and-same}
+use Rattle.deal.proofs.collateral.Collateral.days_in_range.Statement.{statement}
+use Rattle.deal.proofs.collateral.Collateral.days_in_range.Tie as tie
+
+-- src/collateral.rt:58:9
+days-allowed-requires : tie.Need-days-allowed-requires
+days-allowed-requires c κs = search tests
+
+-- src/collateral.rt:58:39
+days-allowed-requires-2 : tie.Need-days-allowed-requires-2
+days-allowed-requires-2 c κs = search tests
+
+-- src/collateral.rt:58:69
+life-allowed-requires : tie.Need-life-allowed-requires
+life-allowed-requires c κs = search tests
+
+-- src/collateral.rt:54:5
+returns : tie.Need-returns
+returns c = search and-same
+
+pub days-in-range-spec : {M : Type 1} → statement M
+days-in-range-spec =
+    tie.close
+    (tie.spec days-allowed-requires days-allowed-requires-2 life-allowed-requires returns)

@@ -1,0 +1,29 @@
+-- `deal::guarantee::Guarantee::conditions_allowed` meets its contract. Assumes nothing.
+use Rattle.base.proofs.Tests.{tests, and-same}
+use Rattle.deal.proofs.guarantee.Guarantee.conditions_allowed.Statement.{statement}
+use Rattle.deal.proofs.guarantee.Guarantee.conditions_allowed.Tie as tie
+
+-- src/guarantee.rt:55:9
+condition-allowed-requires : tie.Need-condition-allowed-requires
+condition-allowed-requires c κs = search tests
+
+-- src/guarantee.rt:56:15
+condition-allowed-requires-2 : tie.Need-condition-allowed-requires-2
+condition-allowed-requires-2 c κs = search tests
+
+-- src/guarantee.rt:57:15
+condition-allowed-requires-3 : tie.Need-condition-allowed-requires-3
+condition-allowed-requires-3 c κs = search tests
+
+-- src/guarantee.rt:52:5
+returns : tie.Need-returns
+returns c = search and-same
+
+pub conditions-allowed-spec : {M : Type 1} → statement M
+conditions-allowed-spec =
+    tie.close
+    (tie.spec
+    condition-allowed-requires
+    condition-allowed-requires-2
+    condition-allowed-requires-3
+    returns)

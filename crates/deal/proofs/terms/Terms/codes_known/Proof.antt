@@ -1,0 +1,25 @@
+-- `deal::terms::Terms::codes_known` meets its contract. Assumes nothing.
+use Rattle.base.proofs.Tests.{tests, and-same}
+use Rattle.deal.proofs.terms.Terms.codes_known.Statement.{statement}
+use Rattle.deal.proofs.terms.Terms.codes_known.Tie as tie
+
+-- src/terms.rt:59:9
+counterparty-known-requires : tie.Need-counterparty-known-requires
+counterparty-known-requires c κs = search tests
+
+-- src/terms.rt:59:45
+kind-known-requires : tie.Need-kind-known-requires
+kind-known-requires c κs = search tests
+
+-- src/terms.rt:59:69
+goods-known-requires : tie.Need-goods-known-requires
+goods-known-requires c κs = search tests
+
+-- src/terms.rt:54:5
+returns : tie.Need-returns
+returns c = search and-same
+
+pub codes-known-spec : {M : Type 1} → statement M
+codes-known-spec =
+    tie.close
+    (tie.spec counterparty-known-requires kind-known-requires goods-known-requires returns)

@@ -1,0 +1,83 @@
+-- A deal, and the operations that make one. 01: The four operations, Opening a deal, Adding an item; 40 of Reporting a deal.
+use Prim.Native.Nat.{ℕ}
+use mathlib.Core.Bool.{Bool, not, _&&_}
+use mathlib.Core.List.{List, _∷_}
+use lib.Dec.{leb, eqb}
+use lib.ListN.{replicate}
+use Rattle.base.specs.Choice.{if_then_else_}
+use Rattle.base.specs.FirstMet.{Test, _when_, firstMet}
+use Rattle.deal.specs.Terms.{termsOf, termsRefusal}
+use Rattle.deal.specs.Items.{collateralTests, guaranteeTests, collateralAccepted, guaranteesAccepted, listLimit, pushCollateral, pushGuarantee}
+use Rattle.deal.specs.declared.terms.Terms.{Terms}
+use Rattle.deal.specs.declared.collateral.Collateral.{Collateral}
+use Rattle.deal.specs.declared.guarantee.Guarantee.{Guarantee}
+use Rattle.deal.specs.declared.deal.Deal.{Deal}
+
+abbrev pub noCollateral : Collateral
+noCollateral = record {
+  amount = 0;
+  asset = record { goods = 0; step = 0; life = 0 };
+  currency = 0;
+  residual = 0;
+  original = 0;
+  lawful = 0;
+  unrelated = 0;
+  uncounted = 0;
+  listed = 0;
+}
+
+abbrev pub noGuarantee : Guarantee
+noGuarantee = record {
+  amount = 0;
+  provider = record { class = 0; step = 0 };
+  currency = 0;
+  residual = 0;
+  original = 0;
+  lawful = 0;
+  direct = 0;
+  uncounted = 0;
+}
+
+-- "A new deal's lists are all zeros"
+abbrev pub withoutProtection : Terms → Deal
+withoutProtection t = record {
+  terms = t;
+  collateral = record { items = replicate listLimit noCollateral; count = 0 };
+  guarantees = record { items = replicate listLimit noGuarantee; count = 0 };
+}
+
+-- Opening. "A refusal gives no deal": the record beside it is all zeros
+unfoldable pub openedOn : Terms → Deal
+openedOn t = if eqb (termsRefusal t) 0 then withoutProtection t else withoutProtection (termsOf 0 0 0 0 0 0 0 0 0 0)
+
+-- an accepted deal, "a record on which reporting's 40 does not fall, however it came about" (01: Betterments)
+unfoldable pub accepted : Deal → Bool
+accepted d = eqb (termsRefusal (d .terms)) 0 && collateralAccepted (d .collateral) && guaranteesAccepted (d .guarantees)
+
+-- Adding: "40 is its one refusal, and adding's before 6"; "6 that list is full; then .. the item's fields"
+unfoldable pub addCollateralTests : Deal → Collateral → List Test
+addCollateralTests d c = 40 when not (accepted d) ∷ 6 when leb listLimit (d .collateral .count) ∷ collateralTests c
+
+unfoldable pub addGuaranteeTests : Deal → Guarantee → List Test
+addGuaranteeTests d g = 40 when not (accepted d) ∷ 6 when leb listLimit (d .guarantees .count) ∷ guaranteeTests g
+
+unfoldable pub addCollateralRefusal : Deal → Collateral → ℕ
+addCollateralRefusal d c = firstMet (addCollateralTests d c)
+
+unfoldable pub addGuaranteeRefusal : Deal → Guarantee → ℕ
+addGuaranteeRefusal d g = firstMet (addGuaranteeTests d g)
+
+-- "A refused line leaves the deal as it was before it"
+unfoldable pub withCollateral : Deal → Collateral → Deal
+withCollateral d c =
+    let longer = pushCollateral (d .collateral) c in
+    if eqb (addCollateralRefusal d c) 0
+    then record { terms = d .terms; collateral = longer; guarantees = d .guarantees }
+    else d
+
+unfoldable pub withGuarantee : Deal → Guarantee → Deal
+withGuarantee d g =
+    let longer = pushGuarantee (d .guarantees) g in
+    if eqb (addGuaranteeRefusal d g) 0
+    then record { terms = d .terms; collateral = d .collateral; guarantees = longer }
+    else d

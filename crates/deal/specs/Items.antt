@@ -1,0 +1,69 @@
+-- Collateral and guarantees. 01: What a deal holds; The four operations, Adding an item.
+use Prim.Native.Nat.{ℕ, _+_}
+use mathlib.Core.Bool.{Bool, not, _&&_}
+use mathlib.Core.List.{List, [], _∷_}
+use lib.Dec.{leb, ltb, eqb}
+use lib.ListN.{take, set}
+use Rattle.base.specs.FirstMet.{Test, _when_, firstMet}
+use Rattle.base.specs.All.{all}
+use Rattle.deal.specs.Ranges.{amountAllowed, currencyAllowed, daysAllowed, conditionAllowed}
+use Rattle.deal.specs.Parties.{providerKnown, partyStepAllowed}
+use Rattle.deal.specs.Assets.{goodsKnown, assetStepAllowed, lifeAllowed}
+use Rattle.deal.specs.declared.collateral.Collateral.{Collateral}
+use Rattle.deal.specs.declared.collateral.CollateralList.{CollateralList}
+use Rattle.deal.specs.declared.guarantee.Guarantee.{Guarantee}
+use Rattle.deal.specs.declared.guarantee.GuaranteeList.{GuaranteeList}
+
+-- "1, 2, 3, 4, 5 as above on the item's fields; 7 residual term above original; 8 a condition neither 0 nor 1"
+unfoldable pub collateralTests : Collateral → List Test
+collateralTests c =
+    1 when not (amountAllowed (c .amount))
+    ∷ 2 when not (goodsKnown (c .asset))
+    ∷ 3 when not (assetStepAllowed (c .asset))
+    ∷ 4 when not (currencyAllowed (c .currency))
+    ∷ 5 when not (daysAllowed (c .residual) && daysAllowed (c .original) && lifeAllowed (c .asset))
+    ∷ 7 when ltb (c .original) (c .residual)
+    ∷ 8 when not (conditionAllowed (c .lawful) && conditionAllowed (c .unrelated) && conditionAllowed (c .uncounted) && conditionAllowed (c .listed))
+    ∷ []
+
+unfoldable pub guaranteeTests : Guarantee → List Test
+guaranteeTests g =
+    1 when not (amountAllowed (g .amount))
+    ∷ 2 when not (providerKnown (g .provider))
+    ∷ 3 when not (partyStepAllowed (g .provider))
+    ∷ 4 when not (currencyAllowed (g .currency))
+    ∷ 5 when not (daysAllowed (g .residual) && daysAllowed (g .original))
+    ∷ 7 when ltb (g .original) (g .residual)
+    ∷ 8 when not (conditionAllowed (g .lawful) && conditionAllowed (g .direct) && conditionAllowed (g .uncounted))
+    ∷ []
+
+unfoldable pub collateralRefusal : Collateral → ℕ
+collateralRefusal c = firstMet (collateralTests c)
+
+unfoldable pub guaranteeRefusal : Guarantee → ℕ
+guaranteeRefusal g = firstMet (guaranteeTests g)
+
+-- "at most sixteen items of collateral and sixteen guarantees"
+abbrev pub listLimit : ℕ
+listLimit = 16
+
+-- "Its items are the counted ones in order of adding" (01: Betterments)
+abbrev pub collateralOf : CollateralList → List Collateral
+collateralOf l = take (l .count) (l .items)
+
+abbrev pub guaranteesOf : GuaranteeList → List Guarantee
+guaranteesOf l = take (l .count) (l .items)
+
+-- no count above sixteen, and no counted item that adding would refuse
+unfoldable pub collateralAccepted : CollateralList → Bool
+collateralAccepted l = leb (l .count) listLimit && all (collateralOf l) (λ c. eqb (collateralRefusal c) 0)
+
+unfoldable pub guaranteesAccepted : GuaranteeList → Bool
+guaranteesAccepted l = leb (l .count) listLimit && all (guaranteesOf l) (λ g. eqb (guaranteeRefusal g) 0)
+
+-- "adding changes only the next place and that list's count"
+abbrev pub pushCollateral : CollateralList → Collateral → CollateralList
+pushCollateral l c = record { items = set (l .items) (l .count) c; count = l .count + 1 }
+
+abbrev pub pushGuarantee : GuaranteeList → Guarantee → GuaranteeList
+pushGuarantee l g = record { items = set (l .items) (l .count) g; count = l .count + 1 }

@@ -1,0 +1,7 @@
+pub mod Answers
+pub mod Assets
+pub mod Deals
+pub mod Items
+pub mod Parties
+pub mod Ranges
+pub mod Terms

@@ -1,0 +1,32 @@
+-- The ranges of single fields. 01: What a deal holds.
+use Prim.Native.Nat.{ℕ}
+use mathlib.Core.Bool.{Bool}
+use lib.Dec.{leb}
+use Rattle.base.specs.Range.{within}
+
+-- "An amount is 0 to 1,000,000,000,000 currency units"
+abbrev pub amountLimit : ℕ
+amountLimit = 1000000000000
+
+abbrev pub amountAllowed : ℕ → Bool
+amountAllowed amount = leb amount amountLimit
+
+-- "A currency is its ISO 4217 number, 1 to 999"
+abbrev pub currencyAllowed : ℕ → Bool
+currencyAllowed currency = within 1 999 currency
+
+-- "Days of life or cover are 1 to 36,000"
+abbrev pub daysAllowed : ℕ → Bool
+daysAllowed days = within 1 36000 days
+
+-- "revaluation interval, 1 to 250 business days"
+abbrev pub intervalAllowed : ℕ → Bool
+intervalAllowed interval = within 1 250 interval
+
+-- "A rating step is 1 .. 6 .., 0 unrated"
+abbrev pub stepAllowed : ℕ → Bool
+stepAllowed step = leb step 6
+
+-- "A condition is 1 met or 0 not met"
+abbrev pub conditionAllowed : ℕ → Bool
+conditionAllowed condition = leb condition 1

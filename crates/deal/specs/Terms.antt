@@ -1,0 +1,38 @@
+-- The terms of a deal, and opening one. 01: What a deal holds; The four operations, Opening a deal.
+use Prim.Native.Nat.{ℕ}
+use mathlib.Core.Bool.{Bool, not, _&&_}
+use mathlib.Core.List.{List, [], _∷_}
+use Rattle.base.specs.FirstMet.{Test, _when_, firstMet}
+use Rattle.base.specs.Range.{within}
+use Rattle.deal.specs.Ranges.{amountAllowed, currencyAllowed, intervalAllowed, daysAllowed}
+use Rattle.deal.specs.Parties.{counterpartyKnown, partyStepAllowed}
+use Rattle.deal.specs.Assets.{goodsKnown, assetStepAllowed, lifeAllowed}
+use Rattle.deal.specs.declared.terms.Terms.{Terms}
+
+-- the ten fields in the order in which they are sent
+abbrev pub termsOf : ℕ → ℕ → ℕ → ℕ → ℕ → ℕ → ℕ → ℕ → ℕ → ℕ → Terms
+termsOf amount class step currency kind interval term lentGoods lentStep lentLife = record {
+  amount = amount;
+  counterparty = record { class = class; step = step };
+  currency = currency;
+  kind = kind;
+  interval = interval;
+  term = term;
+  lent = record { goods = lentGoods; step = lentStep; life = lentLife };
+}
+
+-- "kind (1 repo-style, 2 other capital market, 3 secured lending)"
+abbrev pub kindKnown : ℕ → Bool
+kindKnown kind = within 1 3 kind
+
+unfoldable pub termsTests : Terms → List Test
+termsTests t =
+    1 when not (amountAllowed (t .amount))
+    ∷ 2 when not (counterpartyKnown (t .counterparty) && kindKnown (t .kind) && goodsKnown (t .lent))
+    ∷ 3 when not (partyStepAllowed (t .counterparty) && assetStepAllowed (t .lent))
+    ∷ 4 when not (currencyAllowed (t .currency))
+    ∷ 5 when not (intervalAllowed (t .interval) && daysAllowed (t .term) && lifeAllowed (t .lent))
+    ∷ []
+
+unfoldable pub termsRefusal : Terms → ℕ
+termsRefusal t = firstMet (termsTests t)

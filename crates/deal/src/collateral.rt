@@ -1,0 +1,132 @@
+// Collateral, and the list of it that a deal holds.
+ghost use mathlib.Core.Bool.{_&&_};
+ghost use mathlib.Core.Path.{_≡_};
+ghost use Prim.Native.Nat.{_<_};
+ghost use Rattle.deal.specs.Answers.{numberOf};
+ghost use Rattle.deal.specs.Assets.{lifeAllowed};
+ghost use Rattle.deal.specs.Ranges.{conditionAllowed, daysAllowed};
+ghost use Rattle.deal.specs.Items.{collateralRefusal, collateralAccepted, pushCollateral};
+use crate::answer::Answer;
+use crate::asset::Asset;
+use crate::deal::Deal;
+use crate::ranges::condition_allowed;
+use crate::ranges::currency_allowed;
+use crate::ranges::days_allowed;
+
+pub struct Collateral {
+    pub amount: u64,
+    pub asset: Asset,
+    pub currency: u64,
+    // Days that the pledge still runs, and that it ran from the start.
+    pub residual: u64,
+    pub original: u64,
+    // Conditions, each 1 met or 0 not met: lawful; unrelated to the counterparty; not already counted in the rating used;
+    // listed senior bank paper.
+    pub lawful: u64,
+    pub unrelated: u64,
+    pub uncounted: u64,
+    pub listed: u64,
+}
+
+pub struct CollateralList {
+    pub items: [Collateral; 16],
+    pub count: usize,
+}
+
+impl Collateral {
+    pub const NONE: Collateral = Collateral {
+        amount: 0,
+        asset: Asset {
+            goods: 0,
+            step: 0,
+            life: 0,
+        },
+        currency: 0,
+        residual: 0,
+        original: 0,
+        lawful: 0,
+        unrelated: 0,
+        uncounted: 0,
+        listed: 0,
+    };
+
+    // Both terms of the pledge and the issue life.
+    fn days_in_range(self) -> bool
+        ensures { λ r. ⌜ r ≡ (daysAllowed (self .residual) && daysAllowed (self .original) && lifeAllowed (self .asset)) ⌝ }
+    {
+        let asset = self.asset;
+        days_allowed(self.residual) & days_allowed(self.original) & asset.life_allowed()
+    }
+
+    fn conditions_allowed(self) -> bool
+        ensures { λ r. ⌜ r ≡ (conditionAllowed (self .lawful) && conditionAllowed (self .unrelated) && conditionAllowed (self .uncounted) && conditionAllowed (self .listed)) ⌝ }
+    {
+        condition_allowed(self.lawful)
+            & condition_allowed(self.unrelated)
+            & condition_allowed(self.uncounted)
+            & condition_allowed(self.listed)
+    }
+
+    // The first refusal that its own fields meet.
+    pub fn check(self) -> Answer
+        ensures { λ r. ⌜ numberOf r ≡ collateralRefusal self ⌝ }
+    {
+        let asset = self.asset;
+        if self.amount > Deal::AMOUNT_LIMIT {
+            return Answer::AmountAboveLimit;
+        }
+        if !asset.goods_known() {
+            return Answer::UnknownCode;
+        }
+        if !asset.step_allowed() {
+            return Answer::WrongStep;
+        }
+        if !currency_allowed(self.currency) {
+            return Answer::WrongCurrency;
+        }
+        if !self.days_in_range() {
+            return Answer::OutsideRange;
+        }
+        if self.residual > self.original {
+            return Answer::ResidualAboveOriginal;
+        }
+        if !self.conditions_allowed() {
+            return Answer::WrongCondition;
+        }
+        Answer::Accepted
+    }
+}
+
+impl CollateralList {
+    // Whether the count fits and no counted item would be refused.
+    pub fn accepted(self) -> bool
+        ensures { λ r. ⌜ r ≡ collateralAccepted self ⌝ }
+    {
+        let items = self.items;
+        let count = self.count;
+        if count > Deal::COLLATERAL_LIMIT {
+            return false;
+        }
+        let mut i: usize = 0;
+        while i < count {
+            let item = items[i];
+            let answer = item.check();
+            if !answer.is_accepted() {
+                return false;
+            }
+            i += 1;
+        }
+        true
+    }
+
+    // One item more, behind the counted ones.
+    pub fn push(mut self, item: Collateral) -> CollateralList
+        requires { ⌜ self .count < 16 ⌝ }
+        ensures { λ r. ⌜ r ≡ pushCollateral self item ⌝ }
+    {
+        let at = self.count;
+        self.items[at] = item;
+        self.count = at + 1;
+        self
+    }
+}

@@ -1,0 +1,155 @@
+// A deal's record, how one is opened, and how collateral and guarantees are added to it.
+ghost use mathlib.Core.Path.{_≡_};
+ghost use Rattle.deal.specs.Answers.{numberOf};
+ghost use Rattle.deal.specs.Terms.{termsOf, termsRefusal};
+ghost use Rattle.deal.specs.Deals.{accepted as acceptedOf, openedOn, withoutProtection, addCollateralRefusal, withCollateral, addGuaranteeRefusal, withGuarantee};
+use crate::answer::Answer;
+use crate::asset::Asset;
+use crate::collateral::Collateral;
+use crate::collateral::CollateralList;
+use crate::guarantee::Guarantee;
+use crate::guarantee::GuaranteeList;
+use crate::party::Party;
+use crate::terms::Terms;
+
+pub struct Deal {
+    pub terms: Terms,
+    pub collateral: CollateralList,
+    pub guarantees: GuaranteeList,
+}
+
+// What an operation answers, and the deal after it.
+pub struct Reply {
+    pub answer: Answer,
+    pub deal: Deal,
+}
+
+fn without_protection(terms: Terms) -> Deal
+    ensures { λ r. ⌜ r ≡ withoutProtection terms ⌝ }
+{
+    let collateral = [Collateral::NONE; 16];
+    let guarantees = [Guarantee::NONE; 16];
+    Deal {
+        terms,
+        collateral: CollateralList {
+            items: collateral,
+            count: 0,
+        },
+        guarantees: GuaranteeList {
+            items: guarantees,
+            count: 0,
+        },
+    }
+}
+
+impl Deal {
+    pub const AMOUNT_LIMIT: u64 = 1_000_000_000_000;
+
+    pub const COLLATERAL_LIMIT: usize = 16;
+
+    pub const GUARANTEE_LIMIT: usize = 16;
+
+    // A new deal from a sender's numbers; a record of zeros beside a refusal.
+    pub fn open(
+        amount: u64,
+        class: u64,
+        step: u64,
+        currency: u64,
+        kind: u64,
+        interval: u64,
+        term: u64,
+        lent_goods: u64,
+        lent_step: u64,
+        lent_life: u64,
+    ) -> Reply
+        ensures { λ r. ⌜ (numberOf (r .answer) ≡ termsRefusal (termsOf amount class step currency kind interval term «lent_goods» «lent_step» «lent_life»)) × (r .deal ≡ openedOn (termsOf amount class step currency kind interval term «lent_goods» «lent_step» «lent_life»)) ⌝ }
+    {
+        let terms = Terms {
+            amount,
+            counterparty: Party { class, step },
+            currency,
+            kind,
+            interval,
+            term,
+            lent: Asset {
+                goods: lent_goods,
+                step: lent_step,
+                life: lent_life,
+            },
+        };
+        let answer = terms.check();
+        if !answer.is_accepted() {
+            let deal = without_protection(Terms::NONE);
+            return Reply { answer, deal };
+        }
+        let deal = without_protection(terms);
+        Reply { answer, deal }
+    }
+
+    // Whether this is a record to work with: no count too high, no field that opening or adding would refuse.
+    pub fn accepted(self) -> bool
+        ensures { λ r. ⌜ r ≡ acceptedOf self ⌝ }
+    {
+        let terms = self.terms;
+        let collateral = self.collateral;
+        let guarantees = self.guarantees;
+        let answer = terms.check();
+        if !answer.is_accepted() {
+            return false;
+        }
+        if !collateral.accepted() {
+            return false;
+        }
+        guarantees.accepted()
+    }
+
+    // One more item of collateral; the same deal beside a refusal.
+    pub fn add_collateral(mut self, item: Collateral) -> Reply
+        ensures { λ r. ⌜ (numberOf (r .answer) ≡ addCollateralRefusal self item) × (r .deal ≡ withCollateral self item) ⌝ }
+    {
+        if !self.accepted() {
+            return Reply {
+                answer: Answer::RecordNotAccepted,
+                deal: self,
+            };
+        }
+        let count = self.collateral.count;
+        if count >= Deal::COLLATERAL_LIMIT {
+            return Reply {
+                answer: Answer::ListFull,
+                deal: self,
+            };
+        }
+        let answer = item.check();
+        if answer.is_accepted() {
+            let list = self.collateral;
+            self.collateral = list.push(item);
+        }
+        Reply { answer, deal: self }
+    }
+
+    // One more guarantee; the same deal beside a refusal.
+    pub fn add_guarantee(mut self, item: Guarantee) -> Reply
+        ensures { λ r. ⌜ (numberOf (r .answer) ≡ addGuaranteeRefusal self item) × (r .deal ≡ withGuarantee self item) ⌝ }
+    {
+        if !self.accepted() {
+            return Reply {
+                answer: Answer::RecordNotAccepted,
+                deal: self,
+            };
+        }
+        let count = self.guarantees.count;
+        if count >= Deal::GUARANTEE_LIMIT {
+            return Reply {
+                answer: Answer::ListFull,
+                deal: self,
+            };
+        }
+        let answer = item.check();
+        if answer.is_accepted() {
+            let list = self.guarantees;
+            self.guarantees = list.push(item);
+        }
+        Reply { answer, deal: self }
+    }
+}

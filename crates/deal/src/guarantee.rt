@@ -1,0 +1,122 @@
+// Guarantees, and the list of them that a deal holds.
+ghost use mathlib.Core.Bool.{_&&_};
+ghost use mathlib.Core.Path.{_≡_};
+ghost use Prim.Native.Nat.{_<_};
+ghost use Rattle.deal.specs.Answers.{numberOf};
+ghost use Rattle.deal.specs.Ranges.{conditionAllowed, daysAllowed};
+ghost use Rattle.deal.specs.Items.{guaranteeRefusal, guaranteesAccepted, pushGuarantee};
+use crate::answer::Answer;
+use crate::deal::Deal;
+use crate::party::Party;
+use crate::ranges::condition_allowed;
+use crate::ranges::currency_allowed;
+use crate::ranges::days_allowed;
+
+pub struct Guarantee {
+    pub amount: u64,
+    pub provider: Party,
+    pub currency: u64,
+    // Days that the guarantee still runs, and that it ran from the start.
+    pub residual: u64,
+    pub original: u64,
+    // Conditions, each 1 met or 0 not met: lawful; direct; not already counted in the rating used.
+    pub lawful: u64,
+    pub direct: u64,
+    pub uncounted: u64,
+}
+
+pub struct GuaranteeList {
+    pub items: [Guarantee; 16],
+    pub count: usize,
+}
+
+impl Guarantee {
+    pub const NONE: Guarantee = Guarantee {
+        amount: 0,
+        provider: Party { class: 0, step: 0 },
+        currency: 0,
+        residual: 0,
+        original: 0,
+        lawful: 0,
+        direct: 0,
+        uncounted: 0,
+    };
+
+    // Both terms of the guarantee.
+    fn days_in_range(self) -> bool
+        ensures { λ r. ⌜ r ≡ (daysAllowed (self .residual) && daysAllowed (self .original)) ⌝ }
+    {
+        days_allowed(self.residual) & days_allowed(self.original)
+    }
+
+    fn conditions_allowed(self) -> bool
+        ensures { λ r. ⌜ r ≡ (conditionAllowed (self .lawful) && conditionAllowed (self .direct) && conditionAllowed (self .uncounted)) ⌝ }
+    {
+        condition_allowed(self.lawful)
+            & condition_allowed(self.direct)
+            & condition_allowed(self.uncounted)
+    }
+
+    // The first refusal that its own fields meet.
+    pub fn check(self) -> Answer
+        ensures { λ r. ⌜ numberOf r ≡ guaranteeRefusal self ⌝ }
+    {
+        let provider = self.provider;
+        if self.amount > Deal::AMOUNT_LIMIT {
+            return Answer::AmountAboveLimit;
+        }
+        if !provider.provider_known() {
+            return Answer::UnknownCode;
+        }
+        if !provider.step_allowed() {
+            return Answer::WrongStep;
+        }
+        if !currency_allowed(self.currency) {
+            return Answer::WrongCurrency;
+        }
+        if !self.days_in_range() {
+            return Answer::OutsideRange;
+        }
+        if self.residual > self.original {
+            return Answer::ResidualAboveOriginal;
+        }
+        if !self.conditions_allowed() {
+            return Answer::WrongCondition;
+        }
+        Answer::Accepted
+    }
+}
+
+impl GuaranteeList {
+    // Whether the count fits and no counted item would be refused.
+    pub fn accepted(self) -> bool
+        ensures { λ r. ⌜ r ≡ guaranteesAccepted self ⌝ }
+    {
+        let items = self.items;
+        let count = self.count;
+        if count > Deal::GUARANTEE_LIMIT {
+            return false;
+        }
+        let mut i: usize = 0;
+        while i < count {
+            let item = items[i];
+            let answer = item.check();
+            if !answer.is_accepted() {
+                return false;
+            }
+            i += 1;
+        }
+        true
+    }
+
+    // One guarantee more, behind the counted ones.
+    pub fn push(mut self, item: Guarantee) -> GuaranteeList
+        requires { ⌜ self .count < 16 ⌝ }
+        ensures { λ r. ⌜ r ≡ pushGuarantee self item ⌝ }
+    {
+        let at = self.count;
+        self.items[at] = item;
+        self.count = at + 1;
+        self
+    }
+}

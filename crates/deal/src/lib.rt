@@ -1,0 +1,10 @@
+// A deal's record, and the operations that make one: opening it, adding collateral, adding a guarantee.
+// A record may come from anywhere and hold any numbers; `Deal::accepted` tells whether it is one to work with.
+pub mod answer;
+pub mod asset;
+pub mod collateral;
+pub mod deal;
+pub mod guarantee;
+pub mod party;
+pub mod ranges;
+pub mod terms;

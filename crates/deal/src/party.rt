@@ -1,0 +1,38 @@
+// A rated party: the deal's counterparty, or the provider of a guarantee.
+ghost use mathlib.Core.Path.{_≡_};
+ghost use Rattle.deal.specs.Parties.{counterpartyKnown, providerKnown, partyStepAllowed};
+use crate::ranges::step_allowed;
+use base::within;
+use tables::weights::RETAIL_CLASS;
+
+const LAST_PROVIDER: u64 = 3;
+
+pub struct Party {
+    pub class: u64,
+    pub step: u64,
+}
+
+impl Party {
+    // Whether its class is one of a counterparty.
+    pub fn counterparty_known(self) -> bool
+        ensures { λ r. ⌜ r ≡ counterpartyKnown self ⌝ }
+    {
+        within(1, RETAIL_CLASS, self.class)
+    }
+
+    // Whether its class is one of a provider.
+    pub fn provider_known(self) -> bool
+        ensures { λ r. ⌜ r ≡ providerKnown self ⌝ }
+    {
+        within(1, LAST_PROVIDER, self.class)
+    }
+
+    pub fn step_allowed(self) -> bool
+        ensures { λ r. ⌜ r ≡ partyStepAllowed self ⌝ }
+    {
+        if self.class == RETAIL_CLASS {
+            return self.step == 0;
+        }
+        step_allowed(self.step)
+    }
+}

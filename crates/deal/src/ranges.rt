@@ -1,0 +1,47 @@
+// The ranges of the fields that deals and items share.
+ghost use mathlib.Core.Path.{_≡_};
+ghost use Rattle.deal.specs.Ranges.{currencyAllowed, daysAllowed, intervalAllowed, stepAllowed, conditionAllowed};
+use base::within;
+
+const LAST_CURRENCY: u64 = 999;
+
+const LONGEST: u64 = 36_000;
+
+const LONGEST_INTERVAL: u64 = 250;
+
+const LAST_STEP: u64 = 6;
+
+// An ISO 4217 number.
+pub fn currency_allowed(currency: u64) -> bool
+    ensures { λ r. ⌜ r ≡ currencyAllowed currency ⌝ }
+{
+    within(1, LAST_CURRENCY, currency)
+}
+
+// Days of life or cover.
+pub fn days_allowed(days: u64) -> bool
+    ensures { λ r. ⌜ r ≡ daysAllowed days ⌝ }
+{
+    within(1, LONGEST, days)
+}
+
+// Business days between revaluations.
+pub fn interval_allowed(interval: u64) -> bool
+    ensures { λ r. ⌜ r ≡ intervalAllowed interval ⌝ }
+{
+    within(1, LONGEST_INTERVAL, interval)
+}
+
+// A rating step, 0 for none.
+pub fn step_allowed(step: u64) -> bool
+    ensures { λ r. ⌜ r ≡ stepAllowed step ⌝ }
+{
+    step <= LAST_STEP
+}
+
+// Met or not met.
+pub fn condition_allowed(condition: u64) -> bool
+    ensures { λ r. ⌜ r ≡ conditionAllowed condition ⌝ }
+{
+    condition <= 1
+}

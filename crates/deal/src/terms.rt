@@ -1,0 +1,100 @@
+// The terms of a deal: every field but its protection.
+ghost use mathlib.Core.Bool.{_&&_};
+ghost use mathlib.Core.Path.{_≡_};
+ghost use Rattle.deal.specs.Answers.{numberOf};
+ghost use Rattle.deal.specs.Assets.{assetStepAllowed, goodsKnown, lifeAllowed};
+ghost use Rattle.deal.specs.Parties.{counterpartyKnown, partyStepAllowed};
+ghost use Rattle.deal.specs.Ranges.{daysAllowed, intervalAllowed};
+ghost use Rattle.deal.specs.Terms.{kindKnown, termsRefusal};
+use crate::answer::Answer;
+use crate::asset::Asset;
+use crate::deal::Deal;
+use crate::party::Party;
+use crate::ranges::currency_allowed;
+use crate::ranges::days_allowed;
+use crate::ranges::interval_allowed;
+use base::within;
+
+const LAST_KIND: u64 = 3;
+
+pub struct Terms {
+    pub amount: u64,
+    pub counterparty: Party,
+    pub currency: u64,
+    pub kind: u64,
+    // Business days between revaluations.
+    pub interval: u64,
+    // The residual term in days.
+    pub term: u64,
+    pub lent: Asset,
+}
+
+fn kind_known(kind: u64) -> bool
+    ensures { λ r. ⌜ r ≡ kindKnown kind ⌝ }
+{
+    within(1, LAST_KIND, kind)
+}
+
+impl Terms {
+    pub const NONE: Terms = Terms {
+        amount: 0,
+        counterparty: Party { class: 0, step: 0 },
+        currency: 0,
+        kind: 0,
+        interval: 0,
+        term: 0,
+        lent: Asset {
+            goods: 0,
+            step: 0,
+            life: 0,
+        },
+    };
+
+    // Class, kind and type of the goods lent.
+    fn codes_known(self) -> bool
+        ensures { λ r. ⌜ r ≡ (counterpartyKnown (self .counterparty) && kindKnown (self .kind) && goodsKnown (self .lent)) ⌝ }
+    {
+        let counterparty = self.counterparty;
+        let lent = self.lent;
+        counterparty.counterparty_known() & kind_known(self.kind) & lent.goods_known()
+    }
+
+    // Of the counterparty and of the goods lent.
+    fn steps_allowed(self) -> bool
+        ensures { λ r. ⌜ r ≡ (partyStepAllowed (self .counterparty) && assetStepAllowed (self .lent)) ⌝ }
+    {
+        let counterparty = self.counterparty;
+        let lent = self.lent;
+        counterparty.step_allowed() & lent.step_allowed()
+    }
+
+    // Interval, term and issue life.
+    fn days_in_range(self) -> bool
+        ensures { λ r. ⌜ r ≡ (intervalAllowed (self .interval) && daysAllowed (self .term) && lifeAllowed (self .lent)) ⌝ }
+    {
+        let lent = self.lent;
+        interval_allowed(self.interval) & days_allowed(self.term) & lent.life_allowed()
+    }
+
+    // The first refusal that opening a deal on these terms meets.
+    pub fn check(self) -> Answer
+        ensures { λ r. ⌜ numberOf r ≡ termsRefusal self ⌝ }
+    {
+        if self.amount > Deal::AMOUNT_LIMIT {
+            return Answer::AmountAboveLimit;
+        }
+        if !self.codes_known() {
+            return Answer::UnknownCode;
+        }
+        if !self.steps_allowed() {
+            return Answer::WrongStep;
+        }
+        if !currency_allowed(self.currency) {
+            return Answer::WrongCurrency;
+        }
+        if !self.days_in_range() {
+            return Answer::OutsideRange;
+        }
+        Answer::Accepted
+    }
+}
