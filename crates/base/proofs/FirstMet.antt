@@ -88,3 +88,13 @@ unfolding firstMet if_then_else_
 none-exactly [] d e = tt
 none-exactly ((n when true) ∷ ts) d e = absurd (never (eq-eqb n 0 e) (unequal (eqb n 0) (both (not (eqb n 0)) _ d .0)))
 none-exactly ((n when false) ∷ ts) d e = (refl, none-exactly ts (both (absent n ts) _ (both (not (eqb n 0)) _ d .1) .1) e)
+
+-- a number other than 0 is given exactly if its test is met and none before it; 0 exactly if none is met
+abbrev pub Exact : List Test → Type 0
+Exact ts =
+    ((k : ℕ) → eqb k 0 ≡ false → (firstMet ts ≡ k → FirstIs k ts) × (FirstIs k ts → firstMet ts ≡ k))
+    × (firstMet ts ≡ 0 → NoneMet ts)
+    × (NoneMet ts → firstMet ts ≡ 0)
+
+pub exact : (ts : List Test) → distinct ts ≡ true → Exact ts
+exact ts d = (λ k z. (first-exactly k ts z d, first-is k ts), none-exactly ts d, none-met ts)

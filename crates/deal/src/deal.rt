@@ -62,7 +62,7 @@ impl Deal {
         lent_step: u64,
         lent_life: u64,
     ) -> Reply
-        ensures { λ r. ⌜ (numberOf (r .answer) ≡ termsRefusal (termsOf amount class step currency kind interval term «lent_goods» «lent_step» «lent_life»)) × (r .deal ≡ openedOn (termsOf amount class step currency kind interval term «lent_goods» «lent_step» «lent_life»)) ⌝ }
+        ensures { λ r. ⌜ (let t = termsOf amount class step currency kind interval term «lent_goods» «lent_step» «lent_life» in (numberOf (r .answer) ≡ termsRefusal t) × (r .deal ≡ openedOn t)) ⌝ }
     {
         let terms = Terms {
             amount,
