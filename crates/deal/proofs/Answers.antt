@@ -5,7 +5,7 @@ use mathlib.Core.Bool.{Bool}
 use lib.Dec.{eqb}
 use lib.ListN.{getD}
 use mathlib.Core.List.{List, [], _∷_}
-use Rattle.deal.specs.Answers.{numberOf}
+use Rattle.deal.specs.Answers.{answerNumber}
 use Rattle.deal.specs.declared.answer.Answer.{Answer}
 use Rattle.deal.specs.declared.answer.Answer.the-variants.{Accepted, AmountAboveLimit, UnknownCode, WrongStep, WrongCurrency, OutsideRange, ListFull, ResidualAboveOriginal, WrongCondition, RecordNotAccepted}
 
@@ -30,8 +30,8 @@ answerOf n =
     n
     RecordNotAccepted
 
-back : (a : Answer) → answerOf (numberOf a) ≡ a
-unfolding numberOf
+back : (a : Answer) → answerOf (answerNumber a) ≡ a
+unfolding answerNumber
 back Accepted = refl
 back AmountAboveLimit = refl
 back UnknownCode = refl
@@ -44,5 +44,5 @@ back WrongCondition = refl
 back RecordNotAccepted = refl
 
 -- a number is that of one answer, so a promise about the number determines the answer
-pub number-unique : (a b : Answer) → numberOf a ≡ numberOf b → a ≡ b
+pub number-unique : (a b : Answer) → answerNumber a ≡ answerNumber b → a ≡ b
 number-unique a b e = sym (back a) ∙ ap answerOf e ∙ back b

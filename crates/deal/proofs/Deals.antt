@@ -7,14 +7,17 @@ use native.Mathlib.Omega.{arith}
 use lib.Dec.{leb, eqb}
 use borrow.Author.Tests.{le-leb, leb-false, eq-eqb}
 use Rattle.base.specs.All.{all}
+use Rattle.base.specs.Choice.{if_then_else_}
+use Rattle.base.specs.FirstMet.{firstMet}
+use Rattle.base.specs.Range.{within}
 use Rattle.base.proofs.Choice.{if-true, if-false}
 use Rattle.base.proofs.Every.{both}
 use Rattle.base.proofs.All.{all-set}
 use Rattle.base.proofs.FirstMet.{none-exactly, none-met}
 use Rattle.base.proofs.Tests.{and-true, told-not-true}
-use Rattle.deal.specs.Terms.{termsRefusal}
-use Rattle.deal.specs.Items.{collateralTests, collateralRefusal, collateralAccepted, guaranteeTests, guaranteeRefusal, guaranteesAccepted, pushCollateral, pushGuarantee, listLimit}
-use Rattle.deal.specs.Deals.{accepted, openedOn, withoutProtection, addCollateralTests, addCollateralRefusal, withCollateral, addGuaranteeTests, addGuaranteeRefusal, withGuarantee}
+use Rattle.deal.specs.Terms.{termsTests, termsRefusal}
+use Rattle.deal.specs.Items.{collateralTests, collateralRefusal, collateralListAllowed, guaranteeTests, guaranteeRefusal, guaranteeListAllowed, appendCollateral, appendGuarantee, listLimit}
+use Rattle.deal.specs.Deals.{accepted, openedDeal, withoutProtection, addCollateralTests, addCollateralRefusal, withCollateral, addGuaranteeTests, addGuaranteeRefusal, withGuarantee}
 use Rattle.deal.specs.declared.terms.Terms.{Terms}
 use Rattle.deal.specs.declared.collateral.Collateral.{Collateral}
 use Rattle.deal.specs.declared.guarantee.Guarantee.{Guarantee}
@@ -22,11 +25,16 @@ use Rattle.deal.specs.declared.deal.Deal.{Deal}
 
 -- Opening
 
-pub new-accepted : (t : Terms) → termsRefusal t ≡ 0 → accepted (openedOn t) ≡ true
-unfolding accepted openedOn collateralAccepted guaranteesAccepted
+pub new-accepted : (t : Terms) → termsRefusal t ≡ 0 → accepted (openedDeal t) ≡ true
+unfolding accepted openedDeal collateralListAllowed guaranteeListAllowed
 new-accepted t e =
     let q = eq-eqb (termsRefusal t) 0 e in
     rw (if-true _ (withoutProtection t) _ q, q)
+
+-- what stands beside a refusal is no deal
+pub refused-not-accepted : (t : Terms) → eqb (termsRefusal t) 0 ≡ false → accepted (openedDeal t) ≡ false
+unfolding accepted openedDeal termsRefusal termsTests firstMet within if_then_else_
+refused-not-accepted t e = rw (if-false _ _ _ e) refl
 
 -- Adding collateral
 
@@ -35,7 +43,7 @@ module _ (d : Deal) (c : Collateral) where
   unfolding withCollateral
   collateral-refused e = if-false _ _ _ e
 
-  pub collateral-added : addCollateralRefusal d c ≡ 0 → withCollateral d c ≡ record { terms = d .terms; collateral = pushCollateral (d .collateral) c; guarantees = d .guarantees }
+  pub collateral-added : addCollateralRefusal d c ≡ 0 → withCollateral d c ≡ record { terms = d .terms; collateral = appendCollateral (d .collateral) c; guarantees = d .guarantees }
   unfolding withCollateral
   collateral-added e = if-true _ _ _ (eq-eqb _ 0 e)
 
@@ -47,10 +55,10 @@ module _ (d : Deal) (c : Collateral) where
       (told-not-true (accepted d) (accepted d) refl (n .0), leb-false _ _ (n .1 .0), none-met (collateralTests c) (n .1 .1))
 
   pub collateral-added-accepted : addCollateralRefusal d c ≡ 0 → accepted (withCollateral d c) ≡ true
-  unfolding accepted collateralAccepted
+  unfolding accepted collateralListAllowed
   collateral-added-accepted e =
       let f = collateral-fits e in
-      let a = both _ (guaranteesAccepted (d .guarantees)) (f .0) in
+      let a = both _ (guaranteeListAllowed (d .guarantees)) (f .0) in
       let b = both (eqb (termsRefusal (d .terms)) 0) _ (a .0) in
       let l = both (leb (d .collateral .count) listLimit) _ (b .1) in
       let more = all-set (λ x. eqb (collateralRefusal x) 0) (d .collateral .count) (d .collateral .items) c (l .1) (eq-eqb _ 0 (f .2)) in
@@ -63,7 +71,7 @@ module _ (d : Deal) (g : Guarantee) where
   unfolding withGuarantee
   guarantee-refused e = if-false _ _ _ e
 
-  pub guarantee-added : addGuaranteeRefusal d g ≡ 0 → withGuarantee d g ≡ record { terms = d .terms; collateral = d .collateral; guarantees = pushGuarantee (d .guarantees) g }
+  pub guarantee-added : addGuaranteeRefusal d g ≡ 0 → withGuarantee d g ≡ record { terms = d .terms; collateral = d .collateral; guarantees = appendGuarantee (d .guarantees) g }
   unfolding withGuarantee
   guarantee-added e = if-true _ _ _ (eq-eqb _ 0 e)
 
@@ -75,10 +83,10 @@ module _ (d : Deal) (g : Guarantee) where
       (told-not-true (accepted d) (accepted d) refl (n .0), leb-false _ _ (n .1 .0), none-met (guaranteeTests g) (n .1 .1))
 
   pub guarantee-added-accepted : addGuaranteeRefusal d g ≡ 0 → accepted (withGuarantee d g) ≡ true
-  unfolding accepted guaranteesAccepted
+  unfolding accepted guaranteeListAllowed
   guarantee-added-accepted e =
       let f = guarantee-fits e in
-      let a = both (eqb (termsRefusal (d .terms)) 0 && collateralAccepted (d .collateral)) _ (f .0) in
+      let a = both (eqb (termsRefusal (d .terms)) 0 && collateralListAllowed (d .collateral)) _ (f .0) in
       let l = both (leb (d .guarantees .count) listLimit) _ (a .1) in
       let more = all-set (λ x. eqb (guaranteeRefusal x) 0) (d .guarantees .count) (d .guarantees .items) g (l .1) (eq-eqb _ 0 (f .2)) in
       rw (guarantee-added e) (and-true _ _ (a .0) (and-true _ _ (le-leb (d .guarantees .count + 1) listLimit (omega (arith, f .1))) more))

@@ -1,3 +1,4 @@
+pub mod Edges
 pub mod Answers
 pub mod Deals
 pub mod Exact

@@ -12,7 +12,8 @@ use Rattle.deal.specs.declared.asset.Asset.{Asset}
 abbrev pub goodsKnown : Asset → Bool
 goodsKnown asset = within cash gold (asset .goods)
 
--- types 2 to 6: all but "Types 1, 7, 8, 9"
+-- debt, securitisations included: types 2 to 6, which are all but "Types 1, 7, 8, 9". Other numbers are refused by 2 before this
+-- is asked for
 abbrev pub isDebt : ℕ → Bool
 isDebt goods = within sovereignDebt resecuritisation goods
 
@@ -20,6 +21,6 @@ isDebt goods = within sovereignDebt resecuritisation goods
 unfoldable pub assetStepAllowed : Asset → Bool
 assetStepAllowed asset = if isDebt (asset .goods) then stepAllowed (asset .step) else eqb (asset .step) 0
 
--- ".. and issue life 0; the rest have issue life 1 to 36,000"
+-- ".. and issue life 0; the rest have issue life 1 to 36,000 (the security's own residual life, never the term of the pledge)"
 unfoldable pub lifeAllowed : Asset → Bool
 lifeAllowed asset = if isDebt (asset .goods) then daysAllowed (asset .life) else eqb (asset .life) 0

@@ -7,14 +7,15 @@ use lib.ListN.{replicate}
 use Rattle.base.specs.Choice.{if_then_else_}
 use Rattle.base.specs.FirstMet.{Test, _when_, firstMet}
 use Rattle.deal.specs.Terms.{termsOf, termsRefusal}
-use Rattle.deal.specs.Items.{collateralTests, guaranteeTests, collateralAccepted, guaranteesAccepted, listLimit, pushCollateral, pushGuarantee}
+use Rattle.deal.specs.Items.{collateralTests, guaranteeTests, collateralListAllowed, guaranteeListAllowed, listLimit, appendCollateral, appendGuarantee}
 use Rattle.deal.specs.declared.terms.Terms.{Terms}
 use Rattle.deal.specs.declared.collateral.Collateral.{Collateral}
 use Rattle.deal.specs.declared.guarantee.Guarantee.{Guarantee}
 use Rattle.deal.specs.declared.deal.Deal.{Deal}
 
-abbrev pub noCollateral : Collateral
-noCollateral = record {
+-- places with nothing in them; the fields in the order in which they are sent
+abbrev pub zeroCollateral : Collateral
+zeroCollateral = record {
   amount = 0;
   asset = record { goods = 0; step = 0; life = 0 };
   currency = 0;
@@ -22,12 +23,12 @@ noCollateral = record {
   original = 0;
   lawful = 0;
   unrelated = 0;
-  uncounted = 0;
+  unreflected = 0;
   listed = 0;
 }
 
-abbrev pub noGuarantee : Guarantee
-noGuarantee = record {
+abbrev pub zeroGuarantee : Guarantee
+zeroGuarantee = record {
   amount = 0;
   provider = record { class = 0; step = 0 };
   currency = 0;
@@ -35,26 +36,27 @@ noGuarantee = record {
   original = 0;
   lawful = 0;
   direct = 0;
-  uncounted = 0;
+  unreflected = 0;
 }
 
 -- "A new deal's lists are all zeros"
 abbrev pub withoutProtection : Terms → Deal
 withoutProtection t = record {
   terms = t;
-  collateral = record { items = replicate listLimit noCollateral; count = 0 };
-  guarantees = record { items = replicate listLimit noGuarantee; count = 0 };
+  collateral = record { items = replicate listLimit zeroCollateral; count = 0 };
+  guarantees = record { items = replicate listLimit zeroGuarantee; count = 0 };
 }
 
--- Opening. "A refusal gives no deal": the record beside it is all zeros
-unfoldable pub openedOn : Terms → Deal
-openedOn t = if eqb (termsRefusal t) 0 then withoutProtection t else withoutProtection (termsOf 0 0 0 0 0 0 0 0 0 0)
+-- Opening. "A refusal gives no deal": beside it stands a record of zeros, which is no accepted deal (`refused-not-accepted`)
+unfoldable pub openedDeal : Terms → Deal
+openedDeal t = if eqb (termsRefusal t) 0 then withoutProtection t else withoutProtection (termsOf 0 0 0 0 0 0 0 0 0 0)
 
--- an accepted deal, "a record on which reporting's 40 does not fall, however it came about" (01: Betterments)
+-- an accepted deal (01: Betterments): not "a record with a list count above sixteen, or with a field, of the deal or of a counted
+-- item, that opening or adding would refuse"; "however it came about"
 unfoldable pub accepted : Deal → Bool
-accepted d = eqb (termsRefusal (d .terms)) 0 && collateralAccepted (d .collateral) && guaranteesAccepted (d .guarantees)
+accepted d = eqb (termsRefusal (d .terms)) 0 && collateralListAllowed (d .collateral) && guaranteeListAllowed (d .guarantees)
 
--- Adding: "40 is its one refusal, and adding's before 6"; "6 that list is full; then .. the item's fields"
+-- what adding tests: "40 .. adding's before 6"; "6 that list is full; then 1, 2, 3, 4, 5 .."
 unfoldable pub addCollateralTests : Deal → Collateral → List Test
 addCollateralTests d c = 40 when not (accepted d) ∷ 6 when leb listLimit (d .collateral .count) ∷ collateralTests c
 
@@ -70,14 +72,14 @@ addGuaranteeRefusal d g = firstMet (addGuaranteeTests d g)
 -- "A refused line leaves the deal as it was before it"
 unfoldable pub withCollateral : Deal → Collateral → Deal
 withCollateral d c =
-    let longer = pushCollateral (d .collateral) c in
+    let longer = appendCollateral (d .collateral) c in
     if eqb (addCollateralRefusal d c) 0
     then record { terms = d .terms; collateral = longer; guarantees = d .guarantees }
     else d
 
 unfoldable pub withGuarantee : Deal → Guarantee → Deal
 withGuarantee d g =
-    let longer = pushGuarantee (d .guarantees) g in
+    let longer = appendGuarantee (d .guarantees) g in
     if eqb (addGuaranteeRefusal d g) 0
     then record { terms = d .terms; collateral = d .collateral; guarantees = longer }
     else d

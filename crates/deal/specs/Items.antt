@@ -1,4 +1,4 @@
--- Collateral and guarantees. 01: What a deal holds; The four operations, Adding an item.
+-- Collateral and guarantees, and the lists of them. 01: What a deal holds; The four operations, Opening a deal, Adding an item.
 use Prim.Native.Nat.{ℕ, _+_}
 use mathlib.Core.Bool.{Bool, not, _&&_}
 use mathlib.Core.List.{List, [], _∷_}
@@ -14,7 +14,9 @@ use Rattle.deal.specs.declared.collateral.CollateralList.{CollateralList
 use Rattle.deal.specs.declared.guarantee.Guarantee.{Guarantee}
 use Rattle.deal.specs.declared.guarantee.GuaranteeList.{GuaranteeList}
 
--- "1, 2, 3, 4, 5 as above on the item's fields; 7 residual term above original; 8 a condition neither 0 nor 1"
+-- what adding tests of collateral: "1, 2, 3, 4, 5 as above on the item's fields; 7 residual term above original; 8 a condition
+-- neither 0 nor 1". Of the condition "listed senior bank paper", which "counts only for type 4 at step 0", "either entry is accepted
+-- elsewhere"
 unfoldable pub collateralTests : Collateral → List Test
 collateralTests c =
     1 when not (amountAllowed (c .amount))
@@ -23,9 +25,10 @@ collateralTests c =
     ∷ 4 when not (currencyAllowed (c .currency))
     ∷ 5 when not (daysAllowed (c .residual) && daysAllowed (c .original) && lifeAllowed (c .asset))
     ∷ 7 when ltb (c .original) (c .residual)
-    ∷ 8 when not (conditionAllowed (c .lawful) && conditionAllowed (c .unrelated) && conditionAllowed (c .uncounted) && conditionAllowed (c .listed))
+    ∷ 8 when not (conditionAllowed (c .lawful) && conditionAllowed (c .unrelated) && conditionAllowed (c .unreflected) && conditionAllowed (c .listed))
     ∷ []
 
+-- and of a guarantee
 unfoldable pub guaranteeTests : Guarantee → List Test
 guaranteeTests g =
     1 when not (amountAllowed (g .amount))
@@ -34,9 +37,10 @@ guaranteeTests g =
     ∷ 4 when not (currencyAllowed (g .currency))
     ∷ 5 when not (daysAllowed (g .residual) && daysAllowed (g .original))
     ∷ 7 when ltb (g .original) (g .residual)
-    ∷ 8 when not (conditionAllowed (g .lawful) && conditionAllowed (g .direct) && conditionAllowed (g .uncounted))
+    ∷ 8 when not (conditionAllowed (g .lawful) && conditionAllowed (g .direct) && conditionAllowed (g .unreflected))
     ∷ []
 
+-- the first that is met, or 0
 unfoldable pub collateralRefusal : Collateral → ℕ
 collateralRefusal c = firstMet (collateralTests c)
 
@@ -48,22 +52,22 @@ abbrev pub listLimit : ℕ
 listLimit = 16
 
 -- "Its items are the counted ones in order of adding" (01: Betterments)
-abbrev pub collateralOf : CollateralList → List Collateral
-collateralOf l = take (l .count) (l .items)
+abbrev pub countedCollateral : CollateralList → List Collateral
+countedCollateral l = take (l .count) (l .items)
 
-abbrev pub guaranteesOf : GuaranteeList → List Guarantee
-guaranteesOf l = take (l .count) (l .items)
+abbrev pub countedGuarantees : GuaranteeList → List Guarantee
+countedGuarantees l = take (l .count) (l .items)
 
--- no count above sixteen, and no counted item that adding would refuse
-unfoldable pub collateralAccepted : CollateralList → Bool
-collateralAccepted l = leb (l .count) listLimit && all (collateralOf l) (λ c. eqb (collateralRefusal c) 0)
+-- no "list count above sixteen", and no field "of a counted item, that .. adding would refuse", the relation 7 among them
+unfoldable pub collateralListAllowed : CollateralList → Bool
+collateralListAllowed l = leb (l .count) listLimit && all (countedCollateral l) (λ c. eqb (collateralRefusal c) 0)
 
-unfoldable pub guaranteesAccepted : GuaranteeList → Bool
-guaranteesAccepted l = leb (l .count) listLimit && all (guaranteesOf l) (λ g. eqb (guaranteeRefusal g) 0)
+unfoldable pub guaranteeListAllowed : GuaranteeList → Bool
+guaranteeListAllowed l = leb (l .count) listLimit && all (countedGuarantees l) (λ g. eqb (guaranteeRefusal g) 0)
 
--- "adding changes only the next place and that list's count"
-abbrev pub pushCollateral : CollateralList → Collateral → CollateralList
-pushCollateral l c = record { items = set (l .items) (l .count) c; count = l .count + 1 }
+-- "adding changes only the next place and that list's count". Places are numbered from 0, and a list has sixteen of them
+abbrev pub appendCollateral : CollateralList → Collateral → CollateralList
+appendCollateral l c = record { items = set (l .items) (l .count) c; count = l .count + 1 }
 
-abbrev pub pushGuarantee : GuaranteeList → Guarantee → GuaranteeList
-pushGuarantee l g = record { items = set (l .items) (l .count) g; count = l .count + 1 }
+abbrev pub appendGuarantee : GuaranteeList → Guarantee → GuaranteeList
+appendGuarantee l g = record { items = set (l .items) (l .count) g; count = l .count + 1 }

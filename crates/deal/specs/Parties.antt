@@ -9,12 +9,12 @@ use Rattle.deal.specs.declared.party.Party.{Party}
 
 -- "counterparty class (1 sovereign, 2 bank, 3 corporate, 4 retail ..)"
 abbrev pub counterpartyKnown : Party → Bool
-counterpartyKnown party = within 1 4 (party .class)
+counterpartyKnown party = within 1 retail (party .class)
 
 -- "provider class (1 sovereign, 2 bank or securities firm, 3 other entity)"
 abbrev pub providerKnown : Party → Bool
 providerKnown party = within 1 3 (party .class)
 
--- ".. 4 retail, which has step 0"
+-- ".. 4 retail, which has step 0". A provider of class 4 is refused by 2 before its step is asked for
 unfoldable pub partyStepAllowed : Party → Bool
 partyStepAllowed party = if eqb (party .class) retail then eqb (party .step) 0 else stepAllowed (party .step)

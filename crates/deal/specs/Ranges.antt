@@ -15,7 +15,7 @@ amountAllowed amount = leb amount amountLimit
 abbrev pub currencyAllowed : ℕ → Bool
 currencyAllowed currency = within 1 999 currency
 
--- "Days of life or cover are 1 to 36,000"
+-- "Days of life or cover are 1 to 36,000": issue lives, the residual term of a deal, both terms of an item
 abbrev pub daysAllowed : ℕ → Bool
 daysAllowed days = within 1 36000 days
 

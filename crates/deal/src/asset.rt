@@ -10,6 +10,7 @@ use tables::goods::RESECURITISATION;
 use tables::goods::SOVEREIGN_DEBT;
 
 pub struct Asset {
+    // The type of goods, 1 to 9.
     pub goods: u64,
     pub step: u64,
     // The security's own residual life, never the term of a pledge.

@@ -2,10 +2,10 @@
 ghost use mathlib.Core.Bool.{_&&_};
 ghost use mathlib.Core.Path.{_≡_};
 ghost use Prim.Native.Nat.{_<_};
-ghost use Rattle.deal.specs.Answers.{numberOf};
+ghost use Rattle.deal.specs.Answers.{answerNumber};
 ghost use Rattle.deal.specs.Assets.{lifeAllowed};
 ghost use Rattle.deal.specs.Ranges.{conditionAllowed, daysAllowed};
-ghost use Rattle.deal.specs.Items.{collateralRefusal, collateralAccepted, pushCollateral};
+ghost use Rattle.deal.specs.Items.{collateralRefusal, collateralListAllowed, appendCollateral};
 use crate::answer::Answer;
 use crate::asset::Asset;
 use crate::deal::Deal;
@@ -20,11 +20,11 @@ pub struct Collateral {
     // Days that the pledge still runs, and that it ran from the start.
     pub residual: u64,
     pub original: u64,
-    // Conditions, each 1 met or 0 not met: lawful; unrelated to the counterparty; not already counted in the rating used;
+    // Conditions, each 1 met or 0 not met: lawful; unrelated to the counterparty; not already reflected in the rating used;
     // listed senior bank paper.
     pub lawful: u64,
     pub unrelated: u64,
-    pub uncounted: u64,
+    pub unreflected: u64,
     pub listed: u64,
 }
 
@@ -34,7 +34,7 @@ pub struct CollateralList {
 }
 
 impl Collateral {
-    pub const NONE: Collateral = Collateral {
+    pub const ZERO: Collateral = Collateral {
         amount: 0,
         asset: Asset {
             goods: 0,
@@ -46,7 +46,7 @@ impl Collateral {
         original: 0,
         lawful: 0,
         unrelated: 0,
-        uncounted: 0,
+        unreflected: 0,
         listed: 0,
     };
 
@@ -59,17 +59,17 @@ impl Collateral {
     }
 
     fn conditions_allowed(self) -> bool
-        ensures { λ r. ⌜ r ≡ (conditionAllowed (self .lawful) && conditionAllowed (self .unrelated) && conditionAllowed (self .uncounted) && conditionAllowed (self .listed)) ⌝ }
+        ensures { λ r. ⌜ r ≡ (conditionAllowed (self .lawful) && conditionAllowed (self .unrelated) && conditionAllowed (self .unreflected) && conditionAllowed (self .listed)) ⌝ }
     {
         condition_allowed(self.lawful)
             & condition_allowed(self.unrelated)
-            & condition_allowed(self.uncounted)
+            & condition_allowed(self.unreflected)
             & condition_allowed(self.listed)
     }
 
     // The first refusal that its own fields meet.
     pub fn check(self) -> Answer
-        ensures { λ r. ⌜ numberOf r ≡ collateralRefusal self ⌝ }
+        ensures { λ r. ⌜ answerNumber r ≡ collateralRefusal self ⌝ }
     {
         let asset = self.asset;
         if self.amount > Deal::AMOUNT_LIMIT {
@@ -99,8 +99,8 @@ impl Collateral {
 
 impl CollateralList {
     // Whether the count fits and no counted item would be refused.
-    pub fn accepted(self) -> bool
-        ensures { λ r. ⌜ r ≡ collateralAccepted self ⌝ }
+    pub fn allowed(self) -> bool
+        ensures { λ r. ⌜ r ≡ collateralListAllowed self ⌝ }
     {
         let items = self.items;
         let count = self.count;
@@ -120,9 +120,9 @@ impl CollateralList {
     }
 
     // One item more, behind the counted ones.
-    pub fn push(mut self, item: Collateral) -> CollateralList
+    pub fn append(mut self, item: Collateral) -> CollateralList
         requires { ⌜ self .count < 16 ⌝ }
-        ensures { λ r. ⌜ r ≡ pushCollateral self item ⌝ }
+        ensures { λ r. ⌜ r ≡ appendCollateral self item ⌝ }
     {
         let at = self.count;
         self.items[at] = item;

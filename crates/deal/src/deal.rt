@@ -1,8 +1,8 @@
 // A deal's record, how one is opened, and how collateral and guarantees are added to it.
 ghost use mathlib.Core.Path.{_≡_};
-ghost use Rattle.deal.specs.Answers.{numberOf};
+ghost use Rattle.deal.specs.Answers.{answerNumber};
 ghost use Rattle.deal.specs.Terms.{termsOf, termsRefusal};
-ghost use Rattle.deal.specs.Deals.{accepted as acceptedOf, openedOn, withoutProtection, addCollateralRefusal, withCollateral, addGuaranteeRefusal, withGuarantee};
+ghost use Rattle.deal.specs.Deals.{accepted as acceptedOf, openedDeal, withoutProtection, addCollateralRefusal, withCollateral, addGuaranteeRefusal, withGuarantee};
 use crate::answer::Answer;
 use crate::asset::Asset;
 use crate::collateral::Collateral;
@@ -27,8 +27,8 @@ pub struct Reply {
 fn without_protection(terms: Terms) -> Deal
     ensures { λ r. ⌜ r ≡ withoutProtection terms ⌝ }
 {
-    let collateral = [Collateral::NONE; 16];
-    let guarantees = [Guarantee::NONE; 16];
+    let collateral = [Collateral::ZERO; 16];
+    let guarantees = [Guarantee::ZERO; 16];
     Deal {
         terms,
         collateral: CollateralList {
@@ -57,12 +57,12 @@ impl Deal {
         currency: u64,
         kind: u64,
         interval: u64,
-        term: u64,
+        residual: u64,
         lent_goods: u64,
         lent_step: u64,
         lent_life: u64,
     ) -> Reply
-        ensures { λ r. ⌜ (let t = termsOf amount class step currency kind interval term «lent_goods» «lent_step» «lent_life» in (numberOf (r .answer) ≡ termsRefusal t) × (r .deal ≡ openedOn t)) ⌝ }
+        ensures { λ r. ⌜ (let t = termsOf amount class step currency kind interval residual «lent_goods» «lent_step» «lent_life» in (answerNumber (r .answer) ≡ termsRefusal t) × (r .deal ≡ openedDeal t)) ⌝ }
     {
         let terms = Terms {
             amount,
@@ -70,7 +70,7 @@ impl Deal {
             currency,
             kind,
             interval,
-            term,
+            residual,
             lent: Asset {
                 goods: lent_goods,
                 step: lent_step,
@@ -79,7 +79,7 @@ impl Deal {
         };
         let answer = terms.check();
         if !answer.is_accepted() {
-            let deal = without_protection(Terms::NONE);
+            let deal = without_protection(Terms::ZERO);
             return Reply { answer, deal };
         }
         let deal = without_protection(terms);
@@ -97,15 +97,15 @@ impl Deal {
         if !answer.is_accepted() {
             return false;
         }
-        if !collateral.accepted() {
+        if !collateral.allowed() {
             return false;
         }
-        guarantees.accepted()
+        guarantees.allowed()
     }
 
     // One more item of collateral; the same deal beside a refusal.
     pub fn add_collateral(mut self, item: Collateral) -> Reply
-        ensures { λ r. ⌜ (numberOf (r .answer) ≡ addCollateralRefusal self item) × (r .deal ≡ withCollateral self item) ⌝ }
+        ensures { λ r. ⌜ (answerNumber (r .answer) ≡ addCollateralRefusal self item) × (r .deal ≡ withCollateral self item) ⌝ }
     {
         if !self.accepted() {
             return Reply {
@@ -123,14 +123,14 @@ impl Deal {
         let answer = item.check();
         if answer.is_accepted() {
             let list = self.collateral;
-            self.collateral = list.push(item);
+            self.collateral = list.append(item);
         }
         Reply { answer, deal: self }
     }
 
     // One more guarantee; the same deal beside a refusal.
     pub fn add_guarantee(mut self, item: Guarantee) -> Reply
-        ensures { λ r. ⌜ (numberOf (r .answer) ≡ addGuaranteeRefusal self item) × (r .deal ≡ withGuarantee self item) ⌝ }
+        ensures { λ r. ⌜ (answerNumber (r .answer) ≡ addGuaranteeRefusal self item) × (r .deal ≡ withGuarantee self item) ⌝ }
     {
         if !self.accepted() {
             return Reply {
@@ -148,7 +148,7 @@ impl Deal {
         let answer = item.check();
         if answer.is_accepted() {
             let list = self.guarantees;
-            self.guarantees = list.push(item);
+            self.guarantees = list.append(item);
         }
         Reply { answer, deal: self }
     }

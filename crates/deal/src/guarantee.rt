@@ -2,9 +2,9 @@
 ghost use mathlib.Core.Bool.{_&&_};
 ghost use mathlib.Core.Path.{_≡_};
 ghost use Prim.Native.Nat.{_<_};
-ghost use Rattle.deal.specs.Answers.{numberOf};
+ghost use Rattle.deal.specs.Answers.{answerNumber};
 ghost use Rattle.deal.specs.Ranges.{conditionAllowed, daysAllowed};
-ghost use Rattle.deal.specs.Items.{guaranteeRefusal, guaranteesAccepted, pushGuarantee};
+ghost use Rattle.deal.specs.Items.{guaranteeRefusal, guaranteeListAllowed, appendGuarantee};
 use crate::answer::Answer;
 use crate::deal::Deal;
 use crate::party::Party;
@@ -19,10 +19,10 @@ pub struct Guarantee {
     // Days that the guarantee still runs, and that it ran from the start.
     pub residual: u64,
     pub original: u64,
-    // Conditions, each 1 met or 0 not met: lawful; direct; not already counted in the rating used.
+    // Conditions, each 1 met or 0 not met: lawful; direct; not already reflected in the rating used.
     pub lawful: u64,
     pub direct: u64,
-    pub uncounted: u64,
+    pub unreflected: u64,
 }
 
 pub struct GuaranteeList {
@@ -31,7 +31,7 @@ pub struct GuaranteeList {
 }
 
 impl Guarantee {
-    pub const NONE: Guarantee = Guarantee {
+    pub const ZERO: Guarantee = Guarantee {
         amount: 0,
         provider: Party { class: 0, step: 0 },
         currency: 0,
@@ -39,7 +39,7 @@ impl Guarantee {
         original: 0,
         lawful: 0,
         direct: 0,
-        uncounted: 0,
+        unreflected: 0,
     };
 
     // Both terms of the guarantee.
@@ -50,16 +50,16 @@ impl Guarantee {
     }
 
     fn conditions_allowed(self) -> bool
-        ensures { λ r. ⌜ r ≡ (conditionAllowed (self .lawful) && conditionAllowed (self .direct) && conditionAllowed (self .uncounted)) ⌝ }
+        ensures { λ r. ⌜ r ≡ (conditionAllowed (self .lawful) && conditionAllowed (self .direct) && conditionAllowed (self .unreflected)) ⌝ }
     {
         condition_allowed(self.lawful)
             & condition_allowed(self.direct)
-            & condition_allowed(self.uncounted)
+            & condition_allowed(self.unreflected)
     }
 
     // The first refusal that its own fields meet.
     pub fn check(self) -> Answer
-        ensures { λ r. ⌜ numberOf r ≡ guaranteeRefusal self ⌝ }
+        ensures { λ r. ⌜ answerNumber r ≡ guaranteeRefusal self ⌝ }
     {
         let provider = self.provider;
         if self.amount > Deal::AMOUNT_LIMIT {
@@ -89,8 +89,8 @@ impl Guarantee {
 
 impl GuaranteeList {
     // Whether the count fits and no counted item would be refused.
-    pub fn accepted(self) -> bool
-        ensures { λ r. ⌜ r ≡ guaranteesAccepted self ⌝ }
+    pub fn allowed(self) -> bool
+        ensures { λ r. ⌜ r ≡ guaranteeListAllowed self ⌝ }
     {
         let items = self.items;
         let count = self.count;
@@ -110,9 +110,9 @@ impl GuaranteeList {
     }
 
     // One guarantee more, behind the counted ones.
-    pub fn push(mut self, item: Guarantee) -> GuaranteeList
+    pub fn append(mut self, item: Guarantee) -> GuaranteeList
         requires { ⌜ self .count < 16 ⌝ }
-        ensures { λ r. ⌜ r ≡ pushGuarantee self item ⌝ }
+        ensures { λ r. ⌜ r ≡ appendGuarantee self item ⌝ }
     {
         let at = self.count;
         self.items[at] = item;

@@ -1,7 +1,7 @@
 // The terms of a deal: every field but its protection.
 ghost use mathlib.Core.Bool.{_&&_};
 ghost use mathlib.Core.Path.{_≡_};
-ghost use Rattle.deal.specs.Answers.{numberOf};
+ghost use Rattle.deal.specs.Answers.{answerNumber};
 ghost use Rattle.deal.specs.Assets.{assetStepAllowed, goodsKnown, lifeAllowed};
 ghost use Rattle.deal.specs.Parties.{counterpartyKnown, partyStepAllowed};
 ghost use Rattle.deal.specs.Ranges.{daysAllowed, intervalAllowed};
@@ -25,7 +25,7 @@ pub struct Terms {
     // Business days between revaluations.
     pub interval: u64,
     // The residual term in days.
-    pub term: u64,
+    pub residual: u64,
     pub lent: Asset,
 }
 
@@ -36,13 +36,13 @@ fn kind_known(kind: u64) -> bool
 }
 
 impl Terms {
-    pub const NONE: Terms = Terms {
+    pub const ZERO: Terms = Terms {
         amount: 0,
         counterparty: Party { class: 0, step: 0 },
         currency: 0,
         kind: 0,
         interval: 0,
-        term: 0,
+        residual: 0,
         lent: Asset {
             goods: 0,
             step: 0,
@@ -70,15 +70,15 @@ impl Terms {
 
     // Interval, term and issue life.
     fn days_in_range(self) -> bool
-        ensures { λ r. ⌜ r ≡ (intervalAllowed (self .interval) && daysAllowed (self .term) && lifeAllowed (self .lent)) ⌝ }
+        ensures { λ r. ⌜ r ≡ (intervalAllowed (self .interval) && daysAllowed (self .residual) && lifeAllowed (self .lent)) ⌝ }
     {
         let lent = self.lent;
-        interval_allowed(self.interval) & days_allowed(self.term) & lent.life_allowed()
+        interval_allowed(self.interval) & days_allowed(self.residual) & lent.life_allowed()
     }
 
     // The first refusal that opening a deal on these terms meets.
     pub fn check(self) -> Answer
-        ensures { λ r. ⌜ numberOf r ≡ termsRefusal self ⌝ }
+        ensures { λ r. ⌜ answerNumber r ≡ termsRefusal self ⌝ }
     {
         if self.amount > Deal::AMOUNT_LIMIT {
             return Answer::AmountAboveLimit;

@@ -21,7 +21,7 @@ pub fn collateral_of(f: [u64; 11]) -> Collateral {
         original: f[6],
         lawful: f[7],
         unrelated: f[8],
-        uncounted: f[9],
+        unreflected: f[9],
         listed: f[10],
     }
 }
@@ -38,7 +38,7 @@ pub fn guarantee_of(f: [u64; 9]) -> Guarantee {
         original: f[5],
         lawful: f[6],
         direct: f[7],
-        uncounted: f[8],
+        unreflected: f[8],
     }
 }
 

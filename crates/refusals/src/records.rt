@@ -46,7 +46,7 @@ fn terms_of(f: [u64; 10]) -> Terms {
         currency: f[3],
         kind: f[4],
         interval: f[5],
-        term: f[6],
+        residual: f[6],
         lent: Asset {
             goods: f[7],
             step: f[8],

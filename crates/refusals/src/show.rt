@@ -26,7 +26,7 @@ fn with_collateral(h: u64, c: Collateral) -> u64 {
     let b = mixed(mixed(a, asset.step), asset.life);
     let d = mixed(mixed(b, c.currency), c.residual);
     let e = mixed(mixed(d, c.original), c.lawful);
-    mixed(mixed(mixed(e, c.unrelated), c.uncounted), c.listed)
+    mixed(mixed(mixed(e, c.unrelated), c.unreflected), c.listed)
 }
 
 fn with_guarantee(h: u64, g: Guarantee) -> u64 {
@@ -34,7 +34,7 @@ fn with_guarantee(h: u64, g: Guarantee) -> u64 {
     let a = mixed(mixed(h, g.amount), provider.class);
     let b = mixed(mixed(a, provider.step), g.currency);
     let d = mixed(mixed(b, g.residual), g.original);
-    mixed(mixed(mixed(d, g.lawful), g.direct), g.uncounted)
+    mixed(mixed(mixed(d, g.lawful), g.direct), g.unreflected)
 }
 
 fn collateral(list: CollateralList) {
@@ -68,7 +68,7 @@ fn terms(t: Terms) {
     number(t.currency);
     number(t.kind);
     number(t.interval);
-    number(t.term);
+    number(t.residual);
     number(lent.goods);
     number(lent.step);
     number(lent.life);

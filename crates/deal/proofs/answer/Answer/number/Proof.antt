@@ -1,6 +1,6 @@
 -- `deal::answer::Answer::number` meets its contract. Assumes nothing.
 use Rattle.base.proofs.Tests.{tests}
-use Rattle.deal.specs.Answers.{numberOf}
+use Rattle.deal.specs.Answers.{answerNumber}
 use Rattle.deal.proofs.answer.Answer.number.Statement.{statement}
 use Rattle.deal.proofs.answer.Answer.number.Tie as tie
 
@@ -46,52 +46,52 @@ enum-told-10 c = search tests
 
 -- src/answer.rt:20:5
 returns : tie.Need-returns
-unfolding numberOf
+unfolding answerNumber
 returns c = search tests
 
 -- src/answer.rt:20:5
 returns-2 : tie.Need-returns-2
-unfolding numberOf
+unfolding answerNumber
 returns-2 c = search tests
 
 -- src/answer.rt:20:5
 returns-3 : tie.Need-returns-3
-unfolding numberOf
+unfolding answerNumber
 returns-3 c = search tests
 
 -- src/answer.rt:20:5
 returns-4 : tie.Need-returns-4
-unfolding numberOf
+unfolding answerNumber
 returns-4 c = search tests
 
 -- src/answer.rt:20:5
 returns-5 : tie.Need-returns-5
-unfolding numberOf
+unfolding answerNumber
 returns-5 c = search tests
 
 -- src/answer.rt:20:5
 returns-6 : tie.Need-returns-6
-unfolding numberOf
+unfolding answerNumber
 returns-6 c = search tests
 
 -- src/answer.rt:20:5
 returns-7 : tie.Need-returns-7
-unfolding numberOf
+unfolding answerNumber
 returns-7 c = search tests
 
 -- src/answer.rt:20:5
 returns-8 : tie.Need-returns-8
-unfolding numberOf
+unfolding answerNumber
 returns-8 c = search tests
 
 -- src/answer.rt:20:5
 returns-9 : tie.Need-returns-9
-unfolding numberOf
+unfolding answerNumber
 returns-9 c = search tests
 
 -- src/answer.rt:20:5
 returns-10 : tie.Need-returns-10
-unfolding numberOf
+unfolding answerNumber
 returns-10 c = search tests
 
 pub number-spec : {M : Type 1} → statement M

@@ -6,11 +6,11 @@ use Rattle.deal.proofs.asset.Asset.life_allowed.Tie as tie
 
 -- src/asset.rt:44:12
 is-debt-requires : tie.Need-is-debt-requires
-is-debt-requires c κs = search tests
+is-debt-requires c κs = tt
 
 -- src/asset.rt:45:13
 days-allowed-requires : tie.Need-days-allowed-requires
-days-allowed-requires c κs = search tests
+days-allowed-requires c κs = tt
 
 -- src/asset.rt:45:13
 returns : tie.Need-returns

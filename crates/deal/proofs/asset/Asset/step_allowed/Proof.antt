@@ -6,11 +6,11 @@ use Rattle.deal.proofs.asset.Asset.step_allowed.Tie as tie
 
 -- src/asset.rt:35:12
 is-debt-requires : tie.Need-is-debt-requires
-is-debt-requires c κs = search tests
+is-debt-requires c κs = tt
 
 -- src/asset.rt:36:13
 step-allowed-requires : tie.Need-step-allowed-requires
-step-allowed-requires c κs = search tests
+step-allowed-requires c κs = tt
 
 -- src/asset.rt:36:13
 returns : tie.Need-returns

@@ -5,7 +5,7 @@ use lib.ListN.{drop}
 use Rattle.base.specs.FirstMet.{firstMet}
 use Rattle.base.proofs.FirstMet.{met-first, not-met}
 use Rattle.base.proofs.Tests.{tests, told-not, told-true, told-false}
-use Rattle.deal.specs.Answers.{numberOf}
+use Rattle.deal.specs.Answers.{answerNumber}
 use Rattle.deal.specs.Items.{guaranteeRefusal}
 use Rattle.deal.specs.Deals.{addGuaranteeTests, addGuaranteeRefusal}
 use Rattle.deal.proofs.Answers.{agreed}
@@ -14,19 +14,19 @@ use Rattle.deal.proofs.deal.Deal.add_guarantee.Statement.{statement}
 use Rattle.deal.proofs.deal.Deal.add_guarantee.Tie as tie
 
 accepted-requires : tie.Need-accepted-requires
-accepted-requires c κs = search tests
+accepted-requires c κs = tt
 
 check-requires : tie.Need-check-requires
-check-requires c κs = search tests
+check-requires c κs = tt
 
 is-accepted-requires : tie.Need-is-accepted-requires
-is-accepted-requires c κs = search tests
+is-accepted-requires c κs = tt
 
-push-requires : tie.Need-push-requires
-push-requires c κs = search tests
+append-requires : tie.Need-append-requires
+append-requires c κs = search tests
 
 returns : tie.Need-returns
-unfolding addGuaranteeRefusal addGuaranteeTests numberOf
+unfolding addGuaranteeRefusal addGuaranteeTests answerNumber
 returns c =
     let e = met-first 40 _ _ (told-not (c .before .accepted .ensures) (c .if1 .taken)) in
     (sym e, sym (guarantee-refused _ _ (rw e refl)))
@@ -36,7 +36,7 @@ unfolding addGuaranteeRefusal addGuaranteeTests
 past-40 c = not-met 40 _ _ (told-not (c .before .accepted .ensures) (c .if1 .left))
 
 returns-2 : tie.Need-returns-2
-unfolding addGuaranteeTests numberOf
+unfolding addGuaranteeTests answerNumber
 returns-2 c =
     let e = past-40 (c .before) ∙ met-first 6 _ _ (le-leb _ _ (c .if2 .taken)) in
     (sym e, sym (guarantee-refused _ _ (rw e refl)))
@@ -51,7 +51,7 @@ returns-3 c =
     let a = c .before .before .before in
     let e = past-6 (a .before .before) in
     let z = eqb-true _ 0 (told-true _ _ (agreed (a .is-accepted .ensures) (a .before .check .ensures)) (c .before .before .if3 .taken)) in
-    (a .before .check .ensures ∙ sym e, rw (c .push .ensures) (sym (guarantee-added _ _ (e ∙ z))))
+    (a .before .check .ensures ∙ sym e, rw (c .append .ensures) (sym (guarantee-added _ _ (e ∙ z))))
 
 returns-4 : tie.Need-returns-4
 returns-4 c =
@@ -69,6 +69,6 @@ add-guarantee-spec =
     returns-2
     check-requires
     is-accepted-requires
-    push-requires
+    append-requires
     returns-3
     returns-4)

@@ -1,32 +1,32 @@
 -- `deal::deal::Deal::open` meets its contract. Assumes nothing.
 use mathlib.Core.Path.{sym, _∙_}
 use Rattle.base.proofs.Choice.{if-true, if-false}
-use Rattle.base.proofs.Tests.{tests, told-not-true, told-not-false}
-use Rattle.deal.specs.Deals.{openedOn}
+use Rattle.base.proofs.Tests.{told-not-true, told-not-false}
+use Rattle.deal.specs.Deals.{openedDeal}
 use Rattle.deal.proofs.Answers.{agreed}
 use Rattle.deal.proofs.deal.Deal.open.Statement.{statement}
 use Rattle.deal.proofs.deal.Deal.open.Tie as tie
 
 check-requires : tie.Need-check-requires
-check-requires c κs = search tests
+check-requires c κs = tt
 
 is-accepted-requires : tie.Need-is-accepted-requires
-is-accepted-requires c κs = search tests
+is-accepted-requires c κs = tt
 
 without-protection-requires : tie.Need-without-protection-requires
-without-protection-requires c κs = search tests
+without-protection-requires c κs = tt
 
 without-protection-requires-2 : tie.Need-without-protection-requires-2
-without-protection-requires-2 c κs = search tests
+without-protection-requires-2 c κs = tt
 
 returns : tie.Need-returns
-unfolding openedOn
+unfolding openedDeal
 returns c =
     let a = c .before .before in
     (a .before .check .ensures, c .without-protection .ensures ∙ sym (if-false _ _ _ (told-not-false _ _ (agreed (a .is-accepted .ensures) (a .before .check .ensures)) (c .before .if1 .taken))))
 
 returns-2 : tie.Need-returns-2
-unfolding openedOn
+unfolding openedDeal
 returns-2 c =
     let a = c .before .before in
     (a .before .check .ensures, c .without-protection2 .ensures ∙ sym (if-true _ _ _ (told-not-true _ _ (agreed (a .is-accepted .ensures) (a .before .check .ensures)) (c .before .if1 .left))))

@@ -1,12 +1,14 @@
 -- `deal::guarantee::Guarantee::check` meets its contract: each test passed leaves the definition's later tests. Assumes nothing.
 use Prim.Native.Nat.{ℕ}
 use mathlib.Core.Path.{_≡_, sym, _∙_}
+use native.Mathlib.Omega.{arith}
 use borrow.Author.Tests.{le-leb, lt-leb, lt-ltb, le-ltb}
 use lib.ListN.{drop}
 use Rattle.base.specs.FirstMet.{firstMet}
 use Rattle.base.proofs.FirstMet.{met-first, not-met}
 use Rattle.base.proofs.Tests.{tests, told-not, not-true, not-false}
-use Rattle.deal.specs.Answers.{numberOf}
+use Rattle.deal.specs.Answers.{answerNumber}
+use Rattle.deal.specs.Ranges.{amountLimit}
 use Rattle.deal.specs.Items.{guaranteeTests, guaranteeRefusal}
 use Rattle.deal.specs.declared.guarantee.Guarantee.{Guarantee}
 use Rattle.deal.proofs.guarantee.Guarantee.check.Statement.{statement}
@@ -17,30 +19,30 @@ abbrev later : Guarantee → ℕ → ℕ
 later x n = firstMet (drop n (guaranteeTests x))
 
 provider-known-requires : tie.Need-provider-known-requires
-provider-known-requires c κs = search tests
+provider-known-requires c κs = tt
 
 step-allowed-requires : tie.Need-step-allowed-requires
-step-allowed-requires c κs = search tests
+step-allowed-requires c κs = tt
 
 currency-allowed-requires : tie.Need-currency-allowed-requires
-currency-allowed-requires c κs = search tests
+currency-allowed-requires c κs = tt
 
 days-in-range-requires : tie.Need-days-in-range-requires
-days-in-range-requires c κs = search tests
+days-in-range-requires c κs = tt
 
 conditions-allowed-requires : tie.Need-conditions-allowed-requires
-conditions-allowed-requires c κs = search tests
+conditions-allowed-requires c κs = tt
 
 returns : tie.Need-returns
-unfolding guaranteeRefusal guaranteeTests numberOf
-returns c = sym (met-first 1 _ _ (not-true _ (lt-leb _ _ (c .if1 .taken))))
+unfolding guaranteeRefusal guaranteeTests answerNumber
+returns c = sym (met-first 1 _ _ (not-true _ (lt-leb (c .before .before .before .args .self .amount) amountLimit (omega (arith, c .if1 .taken)))))
 
 past-1 : (c : tie.Else1) → let x = c .before .before .before .args .self in guaranteeRefusal x ≡ later x 1
 unfolding guaranteeRefusal guaranteeTests
-past-1 c = not-met 1 _ _ (not-false _ (le-leb _ _ (c .if1 .left)))
+past-1 c = not-met 1 _ _ (not-false _ (le-leb (c .before .before .before .args .self .amount) amountLimit (omega (arith, c .if1 .left))))
 
 returns-2 : tie.Need-returns-2
-unfolding guaranteeTests numberOf
+unfolding guaranteeTests answerNumber
 returns-2 c = sym (past-1 (c .before .before) ∙ met-first 2 _ _ (told-not (c .before .provider-known .ensures) (c .if2 .taken)))
 
 past-2 : (c : tie.Else2) → let x = c .before .before .before .before .before .args .self in guaranteeRefusal x ≡ later x 2
@@ -48,7 +50,7 @@ unfolding guaranteeTests
 past-2 c = past-1 (c .before .before) ∙ not-met 2 _ _ (told-not (c .before .provider-known .ensures) (c .if2 .left))
 
 returns-3 : tie.Need-returns-3
-unfolding guaranteeTests numberOf
+unfolding guaranteeTests answerNumber
 returns-3 c = sym (past-2 (c .before .before) ∙ met-first 3 _ _ (told-not (c .before .step-allowed .ensures) (c .if3 .taken)))
 
 past-3 : (c : tie.Else3) → let x = c .before .before .before .before .before .before .before .args .self in guaranteeRefusal x ≡ later x 3
@@ -56,7 +58,7 @@ unfolding guaranteeTests
 past-3 c = past-2 (c .before .before) ∙ not-met 3 _ _ (told-not (c .before .step-allowed .ensures) (c .if3 .left))
 
 returns-4 : tie.Need-returns-4
-unfolding guaranteeTests numberOf
+unfolding guaranteeTests answerNumber
 returns-4 c = sym (past-3 (c .before .before) ∙ met-first 4 _ _ (told-not (c .before .currency-allowed .ensures) (c .if4 .taken)))
 
 past-4 : (c : tie.Else4) → let x = c .before .before .before .before .before .before .before .before .before .args .self in guaranteeRefusal x ≡ later x 4
@@ -64,7 +66,7 @@ unfolding guaranteeTests
 past-4 c = past-3 (c .before .before) ∙ not-met 4 _ _ (told-not (c .before .currency-allowed .ensures) (c .if4 .left))
 
 returns-5 : tie.Need-returns-5
-unfolding guaranteeTests numberOf
+unfolding guaranteeTests answerNumber
 returns-5 c = sym (past-4 (c .before .before) ∙ met-first 5 _ _ (told-not (c .before .days-in-range .ensures) (c .if5 .taken)))
 
 past-5 : (c : tie.Else5) → let x = c .before .before .before .before .before .before .before .before .before .before .before .args .self in guaranteeRefusal x ≡ later x 5
@@ -72,15 +74,15 @@ unfolding guaranteeTests
 past-5 c = past-4 (c .before .before) ∙ not-met 5 _ _ (told-not (c .before .days-in-range .ensures) (c .if5 .left))
 
 returns-6 : tie.Need-returns-6
-unfolding guaranteeTests numberOf
-returns-6 c = sym (past-5 (c .before .before) ∙ met-first 7 _ _ (lt-ltb _ _ (c .if6 .taken)))
+unfolding guaranteeTests answerNumber
+returns-6 c = sym (past-5 (c .before .before) ∙ met-first 7 _ _ (lt-ltb (c .before .before .before .before .before .before .before .before .before .before .before .before .before .args .self .original) (c .before .before .before .before .before .before .before .before .before .before .before .before .before .args .self .residual) (omega (arith, c .if6 .taken))))
 
 past-6 : (c : tie.Else6) → let x = c .before .before .before .before .before .before .before .before .before .before .before .before .before .args .self in guaranteeRefusal x ≡ later x 6
 unfolding guaranteeTests
-past-6 c = past-5 (c .before .before) ∙ not-met 7 _ _ (le-ltb _ _ (c .if6 .left))
+past-6 c = past-5 (c .before .before) ∙ not-met 7 _ _ (le-ltb (c .before .before .before .before .before .before .before .before .before .before .before .before .before .args .self .original) (c .before .before .before .before .before .before .before .before .before .before .before .before .before .args .self .residual) (omega (arith, c .if6 .left)))
 
 returns-7 : tie.Need-returns-7
-unfolding guaranteeTests numberOf
+unfolding guaranteeTests answerNumber
 returns-7 c = sym (past-6 (c .before .before) ∙ met-first 8 _ _ (told-not (c .before .conditions-allowed .ensures) (c .if7 .taken)))
 
 past-7 : (c : tie.Else7) → let x = c .before .before .before .before .before .before .before .before .before .before .before .before .before .before .before .args .self in guaranteeRefusal x ≡ later x 7
@@ -88,7 +90,7 @@ unfolding guaranteeTests
 past-7 c = past-6 (c .before .before) ∙ not-met 8 _ _ (told-not (c .before .conditions-allowed .ensures) (c .if7 .left))
 
 returns-8 : tie.Need-returns-8
-unfolding guaranteeTests numberOf firstMet
+unfolding guaranteeTests answerNumber firstMet
 returns-8 c = sym (past-7 c)
 
 pub check-spec : {M : Type 1} → statement M

@@ -1,4 +1,4 @@
--- `deal::collateral::CollateralList::accepted` meets its contract: the items before the ith are accepted ones. Assumes nothing.
+-- `deal::collateral::CollateralList::allowed` meets its contract: the items before the ith are accepted ones. Assumes nothing.
 use Prim.Native.Nat.{_-_, _≤_}
 use mathlib.Core.Path.{_≡_, refl, sym}
 use mathlib.Core.Bool.{Bool, true}
@@ -10,11 +10,11 @@ use Rattle.base.specs.All.{all}
 use Rattle.base.proofs.All.{all-more, all-not}
 use Rattle.base.proofs.Arrays.{unmapped}
 use Rattle.base.proofs.Tests.{tests, and-true, and-first, and-second, told-not-true, told-not-false}
-use Rattle.deal.specs.Items.{collateralRefusal, collateralAccepted}
+use Rattle.deal.specs.Items.{collateralRefusal, collateralListAllowed}
 use Rattle.deal.specs.declared.collateral.Collateral.{Collateral}
 use Rattle.deal.proofs.Answers.{agreed}
-use Rattle.deal.proofs.collateral.CollateralList.accepted.Statement.{statement}
-use Rattle.deal.proofs.collateral.CollateralList.accepted.Tie as tie
+use Rattle.deal.proofs.collateral.CollateralList.allowed.Statement.{statement}
+use Rattle.deal.proofs.collateral.CollateralList.allowed.Tie as tie
 
 abbrev passes : Collateral → Bool
 passes x = eqb (collateralRefusal x) 0
@@ -26,7 +26,7 @@ abbrev μ-loop : tie.MeasureT-loop
 μ-loop items count i₀ i = count - i
 
 returns : tie.Need-returns Inv-loop μ-loop
-unfolding collateralAccepted
+unfolding collateralListAllowed
 returns c = sym (and-first _ _ (lt-leb _ _ (c .if1 .taken)))
 
 loop-holds : tie.Need-loop-holds Inv-loop μ-loop
@@ -39,16 +39,16 @@ array-copy-out-item : tie.Need-array-copy-out-item Inv-loop μ-loop
 array-copy-out-item c = search tests
 
 check-requires : tie.Need-check-requires Inv-loop μ-loop
-check-requires c κs = search tests
+check-requires c κs = tt
 
 is-accepted-requires : tie.Need-is-accepted-requires Inv-loop μ-loop
-is-accepted-requires c κs = search tests
+is-accepted-requires c κs = tt
 
 long : (c : tie.Start Inv-loop μ-loop) → length (c .args .self .items) ≡ 16
 long c = search (unmapped, c .good)
 
 returns-2 : tie.Need-returns-2 Inv-loop μ-loop
-unfolding collateralAccepted
+unfolding collateralListAllowed
 returns-2 c =
     let i = c .before .before .before .before .before in
     let l = long (i .before .before .before) in
@@ -67,14 +67,14 @@ loop-again c =
     (search tests, all-more passes (i .loop .i) (i .before .before .before .args .self .items) _ (i .loop .inv .1) (told-not-true _ _ (agreed (c .before .is-accepted .ensures) (c .before .before .check .ensures)) (c .if2 .left)))
 
 returns-3 : tie.Need-returns-3 Inv-loop μ-loop
-unfolding collateralAccepted
+unfolding collateralListAllowed
 returns-3 c =
     let i = c .before in
     let e : i .loop .i ≡ i .before .before .before .args .self .count = omega arith in
     sym (and-true _ _ (le-leb _ _ (i .before .if1 .left)) (rw e at (i .loop .inv .1)))
 
-pub accepted-spec : {M : Type 1} → statement M
-accepted-spec =
+pub allowed-spec : {M : Type 1} → statement M
+allowed-spec =
     tie.close
     (tie.spec
     Inv-loop
