@@ -1,4 +1,5 @@
 // Adding to a new deal, each field of an item at its edges and past them; and lists that fill up.
+ghost use Prim.Native.Nat.{_<_};
 use crate::show::number;
 use crate::show::reply;
 use crate::show::text;
@@ -7,6 +8,94 @@ use deal::collateral::Collateral;
 use deal::deal::Deal;
 use deal::guarantee::Guarantee;
 use deal::party::Party;
+
+const COLLATERAL: [[u64; 11]; 43] = [
+    // Amount and currency.
+    [0, 1, 0, 0, 978, 1, 1, 1, 1, 1, 0],
+    [1_000_000_000_000, 1, 0, 0, 978, 1, 1, 1, 1, 1, 0],
+    [1_000_000_000_001, 1, 0, 0, 978, 1, 1, 1, 1, 1, 0],
+    [5, 1, 0, 0, 0, 1, 1, 1, 1, 1, 0],
+    [5, 1, 0, 0, 1, 1, 1, 1, 1, 1, 0],
+    [5, 1, 0, 0, 999, 1, 1, 1, 1, 1, 0],
+    [5, 1, 0, 0, 1_000, 1, 1, 1, 1, 1, 0],
+    // Type, step, issue life.
+    [5, 0, 0, 0, 978, 1, 1, 1, 1, 1, 0],
+    [5, 9, 0, 0, 978, 1, 1, 1, 1, 1, 0],
+    [5, 10, 0, 0, 978, 1, 1, 1, 1, 1, 0],
+    [5, 1, 1, 0, 978, 1, 1, 1, 1, 1, 0],
+    [5, 7, 1, 0, 978, 1, 1, 1, 1, 1, 0],
+    [5, 8, 1, 0, 978, 1, 1, 1, 1, 1, 0],
+    [5, 9, 1, 0, 978, 1, 1, 1, 1, 1, 0],
+    [5, 2, 6, 1, 978, 1, 1, 1, 1, 1, 0],
+    [5, 2, 7, 1, 978, 1, 1, 1, 1, 1, 0],
+    [5, 3, 0, 0, 978, 1, 1, 1, 1, 1, 0],
+    [5, 4, 0, 1, 978, 1, 1, 1, 1, 1, 1],
+    [5, 5, 3, 36_000, 978, 1, 1, 1, 1, 1, 0],
+    [5, 6, 3, 36_001, 978, 1, 1, 1, 1, 1, 0],
+    [5, 1, 0, 1, 978, 1, 1, 1, 1, 1, 0],
+    [5, 8, 0, 1, 978, 1, 1, 1, 1, 1, 0],
+    // Terms of the pledge.
+    [5, 1, 0, 0, 978, 0, 1, 1, 1, 1, 0],
+    [5, 1, 0, 0, 978, 36_000, 36_000, 1, 1, 1, 0],
+    [5, 1, 0, 0, 978, 1, 36_001, 1, 1, 1, 0],
+    [5, 1, 0, 0, 978, 36_001, 36_001, 1, 1, 1, 0],
+    [5, 1, 0, 0, 978, 1, 0, 1, 1, 1, 0],
+    [5, 1, 0, 0, 978, 360, 360, 1, 1, 1, 0],
+    [5, 1, 0, 0, 978, 361, 360, 1, 1, 1, 0],
+    // Conditions.
+    [5, 1, 0, 0, 978, 1, 1, 0, 0, 0, 0],
+    [5, 1, 0, 0, 978, 1, 1, 1, 1, 1, 1],
+    [5, 1, 0, 0, 978, 1, 1, 2, 1, 1, 1],
+    [5, 1, 0, 0, 978, 1, 1, 1, 2, 1, 1],
+    [5, 1, 0, 0, 978, 1, 1, 1, 1, 2, 1],
+    [5, 1, 0, 0, 978, 1, 1, 1, 1, 1, 2],
+    [5, 1, 0, 0, 978, 1, 1, 1, 1, 1, 18_446_744_073_709_551_615],
+    // Several faults at once: the first number is given.
+    [1_000_000_000_001, 10, 7, 1, 0, 2, 1, 2, 2, 2, 2],
+    [5, 10, 7, 1, 0, 2, 1, 2, 2, 2, 2],
+    [5, 1, 7, 1, 0, 0, 0, 2, 2, 2, 2],
+    [5, 1, 0, 1, 0, 0, 0, 2, 2, 2, 2],
+    [5, 1, 0, 1, 978, 2, 1, 2, 2, 2, 2],
+    [5, 1, 0, 0, 978, 2, 1, 2, 2, 2, 2],
+    [5, 1, 0, 0, 978, 1, 1, 2, 2, 2, 2],
+];
+
+const GUARANTEES: [[u64; 9]; 30] = [
+    // Amount, class, step, currency.
+    [0, 1, 0, 978, 1, 1, 1, 1, 1],
+    [1_000_000_000_000, 1, 0, 978, 1, 1, 1, 1, 1],
+    [1_000_000_000_001, 1, 0, 978, 1, 1, 1, 1, 1],
+    [5, 0, 0, 978, 1, 1, 1, 1, 1],
+    [5, 3, 0, 978, 1, 1, 1, 1, 1],
+    [5, 4, 0, 978, 1, 1, 1, 1, 1],
+    [5, 1, 6, 978, 1, 1, 1, 1, 1],
+    [5, 1, 7, 978, 1, 1, 1, 1, 1],
+    [5, 1, 0, 0, 1, 1, 1, 1, 1],
+    [5, 1, 0, 1, 1, 1, 1, 1, 1],
+    [5, 1, 0, 999, 1, 1, 1, 1, 1],
+    [5, 1, 0, 1_000, 1, 1, 1, 1, 1],
+    // Terms of the guarantee.
+    [5, 1, 0, 978, 0, 1, 1, 1, 1],
+    [5, 1, 0, 978, 36_000, 36_000, 1, 1, 1],
+    [5, 1, 0, 978, 1, 36_001, 1, 1, 1],
+    [5, 1, 0, 978, 36_001, 36_001, 1, 1, 1],
+    [5, 1, 0, 978, 1, 0, 1, 1, 1],
+    [5, 1, 0, 978, 360, 360, 1, 1, 1],
+    [5, 1, 0, 978, 361, 360, 1, 1, 1],
+    // Conditions.
+    [5, 1, 0, 978, 1, 1, 0, 0, 0],
+    [5, 1, 0, 978, 1, 1, 2, 1, 1],
+    [5, 1, 0, 978, 1, 1, 1, 2, 1],
+    [5, 1, 0, 978, 1, 1, 1, 1, 2],
+    // Several faults at once: the first number is given.
+    [1_000_000_000_001, 4, 7, 0, 2, 1, 2, 2, 2],
+    [5, 4, 7, 0, 0, 0, 2, 2, 2],
+    [5, 3, 7, 0, 0, 0, 2, 2, 2],
+    [5, 3, 6, 0, 0, 0, 2, 2, 2],
+    [5, 3, 6, 978, 2, 0, 2, 2, 2],
+    [5, 3, 6, 978, 2, 1, 2, 2, 2],
+    [5, 3, 6, 978, 1, 1, 2, 2, 2],
+];
 
 pub fn collateral_of(f: [u64; 11]) -> Collateral {
     Collateral {
@@ -44,37 +133,21 @@ pub fn guarantee_of(f: [u64; 9]) -> Guarantee {
 
 // Adds it, shows the reply, and gives the deal that came back.
 pub fn add_collateral(d: Deal, f: [u64; 11]) -> Deal {
-    let item = collateral_of(f);
     text(b"collateral");
-    number(f[0]);
-    number(f[1]);
-    number(f[2]);
-    number(f[3]);
-    number(f[4]);
-    number(f[5]);
-    number(f[6]);
-    number(f[7]);
-    number(f[8]);
-    number(f[9]);
-    number(f[10]);
-    let r = d.add_collateral(item);
+    for k in 0..11 {
+        number(f[k]);
+    }
+    let r = d.add_collateral(collateral_of(f));
     reply(r);
     r.deal
 }
 
 pub fn add_guarantee(d: Deal, f: [u64; 9]) -> Deal {
-    let item = guarantee_of(f);
     text(b"guarantee");
-    number(f[0]);
-    number(f[1]);
-    number(f[2]);
-    number(f[3]);
-    number(f[4]);
-    number(f[5]);
-    number(f[6]);
-    number(f[7]);
-    number(f[8]);
-    let r = d.add_guarantee(item);
+    for k in 0..9 {
+        number(f[k]);
+    }
+    let r = d.add_guarantee(guarantee_of(f));
     reply(r);
     r.deal
 }
@@ -84,126 +157,24 @@ fn new_deal() -> Deal {
     r.deal
 }
 
-fn collateral(f: [u64; 11]) {
-    add_collateral(new_deal(), f);
+fn collateral_rows() {
+    let d = new_deal();
+    for i in 0..43 {
+        add_collateral(d, COLLATERAL[i]);
+    }
 }
 
-fn guarantee(f: [u64; 9]) {
-    add_guarantee(new_deal(), f);
+fn guarantee_rows() {
+    let d = new_deal();
+    for i in 0..30 {
+        add_guarantee(d, GUARANTEES[i]);
+    }
 }
 
 pub fn print() {
-    collateral_amounts();
-    collateral_assets();
-    collateral_days();
-    collateral_conditions();
-    collateral_order();
-    guarantee_fields();
-    guarantee_days();
-    guarantee_conditions();
-    guarantee_order();
+    collateral_rows();
+    guarantee_rows();
     full();
-}
-
-fn collateral_amounts() {
-    collateral([0, 1, 0, 0, 978, 1, 1, 1, 1, 1, 0]);
-    collateral([1_000_000_000_000, 1, 0, 0, 978, 1, 1, 1, 1, 1, 0]);
-    collateral([1_000_000_000_001, 1, 0, 0, 978, 1, 1, 1, 1, 1, 0]);
-    collateral([5, 1, 0, 0, 0, 1, 1, 1, 1, 1, 0]);
-    collateral([5, 1, 0, 0, 1, 1, 1, 1, 1, 1, 0]);
-    collateral([5, 1, 0, 0, 999, 1, 1, 1, 1, 1, 0]);
-    collateral([5, 1, 0, 0, 1_000, 1, 1, 1, 1, 1, 0]);
-}
-
-fn collateral_assets() {
-    collateral([5, 0, 0, 0, 978, 1, 1, 1, 1, 1, 0]);
-    collateral([5, 9, 0, 0, 978, 1, 1, 1, 1, 1, 0]);
-    collateral([5, 10, 0, 0, 978, 1, 1, 1, 1, 1, 0]);
-    collateral([5, 1, 1, 0, 978, 1, 1, 1, 1, 1, 0]);
-    collateral([5, 7, 1, 0, 978, 1, 1, 1, 1, 1, 0]);
-    collateral([5, 8, 1, 0, 978, 1, 1, 1, 1, 1, 0]);
-    collateral([5, 9, 1, 0, 978, 1, 1, 1, 1, 1, 0]);
-    collateral([5, 2, 6, 1, 978, 1, 1, 1, 1, 1, 0]);
-    collateral([5, 2, 7, 1, 978, 1, 1, 1, 1, 1, 0]);
-    collateral([5, 3, 0, 0, 978, 1, 1, 1, 1, 1, 0]);
-    collateral([5, 4, 0, 1, 978, 1, 1, 1, 1, 1, 1]);
-    collateral([5, 5, 3, 36_000, 978, 1, 1, 1, 1, 1, 0]);
-    collateral([5, 6, 3, 36_001, 978, 1, 1, 1, 1, 1, 0]);
-    collateral([5, 1, 0, 1, 978, 1, 1, 1, 1, 1, 0]);
-    collateral([5, 8, 0, 1, 978, 1, 1, 1, 1, 1, 0]);
-}
-
-fn collateral_days() {
-    collateral([5, 1, 0, 0, 978, 0, 1, 1, 1, 1, 0]);
-    collateral([5, 1, 0, 0, 978, 36_000, 36_000, 1, 1, 1, 0]);
-    collateral([5, 1, 0, 0, 978, 1, 36_001, 1, 1, 1, 0]);
-    collateral([5, 1, 0, 0, 978, 36_001, 36_001, 1, 1, 1, 0]);
-    collateral([5, 1, 0, 0, 978, 1, 0, 1, 1, 1, 0]);
-    collateral([5, 1, 0, 0, 978, 360, 360, 1, 1, 1, 0]);
-    collateral([5, 1, 0, 0, 978, 361, 360, 1, 1, 1, 0]);
-}
-
-fn collateral_conditions() {
-    collateral([5, 1, 0, 0, 978, 1, 1, 0, 0, 0, 0]);
-    collateral([5, 1, 0, 0, 978, 1, 1, 1, 1, 1, 1]);
-    collateral([5, 1, 0, 0, 978, 1, 1, 2, 1, 1, 1]);
-    collateral([5, 1, 0, 0, 978, 1, 1, 1, 2, 1, 1]);
-    collateral([5, 1, 0, 0, 978, 1, 1, 1, 1, 2, 1]);
-    collateral([5, 1, 0, 0, 978, 1, 1, 1, 1, 1, 2]);
-    collateral([5, 1, 0, 0, 978, 1, 1, 1, 1, 1, 18_446_744_073_709_551_615]);
-}
-
-// Several faults at once: the first number is given.
-fn collateral_order() {
-    collateral([1_000_000_000_001, 10, 7, 1, 0, 2, 1, 2, 2, 2, 2]);
-    collateral([5, 10, 7, 1, 0, 2, 1, 2, 2, 2, 2]);
-    collateral([5, 1, 7, 1, 0, 0, 0, 2, 2, 2, 2]);
-    collateral([5, 1, 0, 1, 0, 0, 0, 2, 2, 2, 2]);
-    collateral([5, 1, 0, 1, 978, 2, 1, 2, 2, 2, 2]);
-    collateral([5, 1, 0, 0, 978, 2, 1, 2, 2, 2, 2]);
-    collateral([5, 1, 0, 0, 978, 1, 1, 2, 2, 2, 2]);
-}
-
-fn guarantee_fields() {
-    guarantee([0, 1, 0, 978, 1, 1, 1, 1, 1]);
-    guarantee([1_000_000_000_000, 1, 0, 978, 1, 1, 1, 1, 1]);
-    guarantee([1_000_000_000_001, 1, 0, 978, 1, 1, 1, 1, 1]);
-    guarantee([5, 0, 0, 978, 1, 1, 1, 1, 1]);
-    guarantee([5, 3, 0, 978, 1, 1, 1, 1, 1]);
-    guarantee([5, 4, 0, 978, 1, 1, 1, 1, 1]);
-    guarantee([5, 1, 6, 978, 1, 1, 1, 1, 1]);
-    guarantee([5, 1, 7, 978, 1, 1, 1, 1, 1]);
-    guarantee([5, 1, 0, 0, 1, 1, 1, 1, 1]);
-    guarantee([5, 1, 0, 1, 1, 1, 1, 1, 1]);
-    guarantee([5, 1, 0, 999, 1, 1, 1, 1, 1]);
-    guarantee([5, 1, 0, 1_000, 1, 1, 1, 1, 1]);
-}
-
-fn guarantee_days() {
-    guarantee([5, 1, 0, 978, 0, 1, 1, 1, 1]);
-    guarantee([5, 1, 0, 978, 36_000, 36_000, 1, 1, 1]);
-    guarantee([5, 1, 0, 978, 1, 36_001, 1, 1, 1]);
-    guarantee([5, 1, 0, 978, 36_001, 36_001, 1, 1, 1]);
-    guarantee([5, 1, 0, 978, 1, 0, 1, 1, 1]);
-    guarantee([5, 1, 0, 978, 360, 360, 1, 1, 1]);
-    guarantee([5, 1, 0, 978, 361, 360, 1, 1, 1]);
-}
-
-fn guarantee_conditions() {
-    guarantee([5, 1, 0, 978, 1, 1, 0, 0, 0]);
-    guarantee([5, 1, 0, 978, 1, 1, 2, 1, 1]);
-    guarantee([5, 1, 0, 978, 1, 1, 1, 2, 1]);
-    guarantee([5, 1, 0, 978, 1, 1, 1, 1, 2]);
-}
-
-fn guarantee_order() {
-    guarantee([1_000_000_000_001, 4, 7, 0, 2, 1, 2, 2, 2]);
-    guarantee([5, 4, 7, 0, 0, 0, 2, 2, 2]);
-    guarantee([5, 3, 7, 0, 0, 0, 2, 2, 2]);
-    guarantee([5, 3, 6, 0, 0, 0, 2, 2, 2]);
-    guarantee([5, 3, 6, 978, 2, 0, 2, 2, 2]);
-    guarantee([5, 3, 6, 978, 2, 1, 2, 2, 2]);
-    guarantee([5, 3, 6, 978, 1, 1, 2, 2, 2]);
 }
 
 // Seventeen of each: the sixteenth is taken, the seventeenth refused, also where its own fields are wrong.

@@ -136,7 +136,14 @@ fn guarantee_field(at: usize, value: u64)
     );
 }
 
-pub fn print() {
+// Which field of the terms, of the counted collateral, of the counted guarantee, and the wrong value in it.
+const TERM_FIELDS: [u64; 10] = [1_000_000_000_001, 5, 7, 1_000, 4, 251, 36_001, 10, 1, 1];
+
+const COLLATERAL_FIELDS: [u64; 11] = [1_000_000_000_001, 10, 7, 0, 0, 91, 36_001, 2, 2, 2, 2];
+
+const GUARANTEE_FIELDS: [u64; 9] = [1_000_000_000_001, 4, 7, 0, 91, 36_001, 2, 2, 2];
+
+fn all_counts() {
     text(b"records: counts\n");
     counts(1, 1);
     counts(0, 1);
@@ -150,45 +157,32 @@ pub fn print() {
     full_counts(TERMS, 1, 17);
     full_counts(TERMS, 18_446_744_073_709_551_615, 1);
     full_counts([1_000, 3, 7, 978, 3, 1, 1_800, 1, 0, 0], 16, 16);
-    fields();
 }
 
-fn fields() {
+fn term_fields() {
     text(b"records: terms\n");
-    term_field(0, 1_000_000_000_001);
-    term_field(1, 5);
-    term_field(2, 7);
-    term_field(3, 1_000);
-    term_field(4, 4);
-    term_field(5, 251);
-    term_field(6, 36_001);
-    term_field(7, 10);
-    term_field(8, 1);
-    term_field(9, 1);
+    for i in 0..10 {
+        term_field(i, TERM_FIELDS[i]);
+    }
+}
+
+fn collateral_fields() {
     text(b"records: collateral\n");
-    collateral_field(0, 1_000_000_000_001);
-    collateral_field(1, 10);
-    collateral_field(2, 7);
-    collateral_field(3, 0);
-    collateral_field(4, 0);
-    collateral_field(5, 91);
-    collateral_field(6, 36_001);
-    collateral_field(7, 2);
-    collateral_field(8, 2);
-    collateral_field(9, 2);
-    collateral_field(10, 2);
-    guarantee_fields();
+    for i in 0..11 {
+        collateral_field(i, COLLATERAL_FIELDS[i]);
+    }
 }
 
 fn guarantee_fields() {
     text(b"records: guarantees\n");
-    guarantee_field(0, 1_000_000_000_001);
-    guarantee_field(1, 4);
-    guarantee_field(2, 7);
-    guarantee_field(3, 0);
-    guarantee_field(4, 91);
-    guarantee_field(5, 36_001);
-    guarantee_field(6, 2);
-    guarantee_field(7, 2);
-    guarantee_field(8, 2);
+    for i in 0..9 {
+        guarantee_field(i, GUARANTEE_FIELDS[i]);
+    }
+}
+
+pub fn print() {
+    all_counts();
+    term_fields();
+    collateral_fields();
+    guarantee_fields();
 }
