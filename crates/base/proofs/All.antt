@@ -3,6 +3,7 @@ use Prim.Native.Nat.{ℕ, zero, suc, _+_, _<_}
 use mathlib.Core.Path.{_≡_, refl}
 use mathlib.Core.Bool.{Bool, true, false, _&&_}
 use mathlib.Core.List.{List, [], _∷_}
+use native.Mathlib.Omega.{arith}
 use native.Mathlib.Nat.{le-of-suc-le-suc, not-suc-le-zero}
 use native.Mathlib.Numerals.{add-one}
 use lib.ListN.{length, take, set, getD}
@@ -45,3 +46,9 @@ module _ {A : Type 0} (p : A → Bool) where
       go n [] h = refl
       go zero (x ∷ xs) h = and-true (p a) _ e refl
       go (suc n) (x ∷ xs) h = let b = both (p x) (all (take n xs) p) h in and-true (p x) _ (b .0) (go n xs (b .1))
+
+  -- exactly where each of them passes
+  pub all-from : (n : ℕ) (xs : List A) (d : A) → ((i : ℕ) → i < n → i < length xs → p (getD xs i d) ≡ true) → all (take n xs) p ≡ true
+  all-from zero xs d h = refl
+  all-from (suc n) [] d h = refl
+  all-from (suc n) (x ∷ xs) d h = and-true (p x) _ (h zero (omega arith) (omega arith)) (all-from n xs d (λ i a b. h (suc i) (omega arith) (omega arith)))

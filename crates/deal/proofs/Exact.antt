@@ -1,14 +1,21 @@
 -- Each refusal exactly where it is due: its own test is met and none before it, and no refusal exactly where no test is met.
 -- So opening and adding refuse nothing that they should take. Assumes nothing.
+use Prim.Native.Nat.{ℕ, _≤_, _<_}
 use mathlib.Core.Path.{_≡_, refl}
 use mathlib.Core.Bool.{true, false, not, _&&_}
+use lib.Dec.{leb, eqb}
+use lib.ListN.{length, getD}
+use borrow.Author.Tests.{eq-eqb, eqb-true, le-leb, leb-true}
 use Rattle.base.proofs.FirstMet.{Exact, exact}
+use Rattle.base.proofs.All.{all-at, all-from}
+use Rattle.base.proofs.Every.{both}
+use Rattle.base.proofs.Tests.{and-true, not-true, told-not-false}
 use Rattle.deal.specs.Ranges.{amountAllowed}
 use Rattle.deal.specs.Parties.{counterpartyKnown, partyStepAllowed}
 use Rattle.deal.specs.Assets.{goodsKnown, assetStepAllowed}
 use Rattle.deal.specs.Terms.{kindKnown, termsTests, termsRefusal}
-use Rattle.deal.specs.Items.{collateralTests, guaranteeTests}
-use Rattle.deal.specs.Deals.{addCollateralTests, addGuaranteeTests}
+use Rattle.deal.specs.Items.{collateralTests, collateralRefusal, guaranteeTests, guaranteeRefusal, collateralListAllowed, guaranteeListAllowed}
+use Rattle.deal.specs.Deals.{accepted, zeroCollateral, zeroGuarantee, addCollateralTests, addCollateralRefusal, addGuaranteeTests, addGuaranteeRefusal}
 use Rattle.deal.specs.declared.terms.Terms.{Terms}
 use Rattle.deal.specs.declared.collateral.Collateral.{Collateral}
 use Rattle.deal.specs.declared.guarantee.Guarantee.{Guarantee}
@@ -36,3 +43,49 @@ Three t =
 pub opening-3 : (t : Terms) → (termsRefusal t ≡ 3 → Three t) × (Three t → termsRefusal t ≡ 3)
 unfolding termsTests termsRefusal
 opening-3 t = opening-exact t .0 3 refl
+
+-- 40 falls exactly on records that are not accepted, whatever is added
+pub collateral-40 : (d : Deal) (c : Collateral) → (addCollateralRefusal d c ≡ 40 → accepted d ≡ false) × (accepted d ≡ false → addCollateralRefusal d c ≡ 40)
+unfolding addCollateralTests addCollateralRefusal collateralTests
+collateral-40 d c =
+    let e = collateral-exact d c .0 40 refl in
+    (λ h. told-not-false (accepted d) (accepted d) refl (e .0 h), λ h. e .1 (not-true (accepted d) h))
+
+pub guarantee-40 : (d : Deal) (g : Guarantee) → (addGuaranteeRefusal d g ≡ 40 → accepted d ≡ false) × (accepted d ≡ false → addGuaranteeRefusal d g ≡ 40)
+unfolding addGuaranteeTests addGuaranteeRefusal guaranteeTests
+guarantee-40 d g =
+    let e = guarantee-exact d g .0 40 refl in
+    (λ h. told-not-false (accepted d) (accepted d) refl (e .0 h), λ h. e .1 (not-true (accepted d) h))
+
+-- an accepted record, field by field: terms that opening takes, counts of at most sixteen, and each counted item one that adding
+-- takes
+pub record Fits (d : Deal) : Type 0 where
+  pub terms : termsRefusal (d .terms) ≡ 0
+  pub collateral-count : d .collateral .count ≤ 16
+  pub guarantee-count : d .guarantees .count ≤ 16
+  pub collateral : (i : ℕ) → i < d .collateral .count → i < length (d .collateral .items) → collateralRefusal (getD (d .collateral .items) i zeroCollateral) ≡ 0
+  pub guarantees : (i : ℕ) → i < d .guarantees .count → i < length (d .guarantees .items) → guaranteeRefusal (getD (d .guarantees .items) i zeroGuarantee) ≡ 0
+
+pub accepted-fits : (d : Deal) → accepted d ≡ true → Fits d
+unfolding accepted collateralListAllowed guaranteeListAllowed
+accepted-fits d e =
+    let outer = both (eqb (termsRefusal (d .terms)) 0 && collateralListAllowed (d .collateral)) _ e in
+    let inner = both (eqb (termsRefusal (d .terms)) 0) _ (outer .0) in
+    let c = both (leb (d .collateral .count) 16) _ (inner .1) in
+    let g = both (leb (d .guarantees .count) 16) _ (outer .1) in
+    record {
+      terms = eqb-true _ 0 (inner .0);
+      collateral-count = leb-true _ 16 (c .0);
+      guarantee-count = leb-true _ 16 (g .0);
+      collateral = λ i h k. eqb-true _ 0 (all-at (λ x. eqb (collateralRefusal x) 0) _ i _ zeroCollateral h k (c .1));
+      guarantees = λ i h k. eqb-true _ 0 (all-at (λ x. eqb (guaranteeRefusal x) 0) _ i _ zeroGuarantee h k (g .1));
+    }
+
+pub fits-accepted : (d : Deal) → Fits d → accepted d ≡ true
+unfolding accepted collateralListAllowed guaranteeListAllowed
+fits-accepted d f =
+    let c = all-from (λ x. eqb (collateralRefusal x) 0) (d .collateral .count) (d .collateral .items) zeroCollateral (λ i h k. eq-eqb _ 0 (f .collateral i h k)) in
+    let g = all-from (λ x. eqb (guaranteeRefusal x) 0) (d .guarantees .count) (d .guarantees .items) zeroGuarantee (λ i h k. eq-eqb _ 0 (f .guarantees i h k)) in
+    and-true _ _
+    (and-true _ _ (eq-eqb _ 0 (f .terms)) (and-true _ _ (le-leb _ 16 (f .collateral-count)) c))
+    (and-true _ _ (le-leb _ 16 (f .guarantee-count)) g)

@@ -9,7 +9,7 @@ use deal::deal::Deal;
 use deal::guarantee::Guarantee;
 use deal::party::Party;
 
-const COLLATERAL: [[u64; 11]; 43] = [
+const COLLATERAL: [[u64; 11]; 44] = [
     // Amount and currency.
     [0, 1, 0, 0, 978, 1, 1, 1, 1, 1, 0],
     [1_000_000_000_000, 1, 0, 0, 978, 1, 1, 1, 1, 1, 0],
@@ -42,6 +42,7 @@ const COLLATERAL: [[u64; 11]; 43] = [
     [5, 1, 0, 0, 978, 1, 0, 1, 1, 1, 0],
     [5, 1, 0, 0, 978, 360, 360, 1, 1, 1, 0],
     [5, 1, 0, 0, 978, 361, 360, 1, 1, 1, 0],
+    [5, 1, 0, 0, 978, 36_001, 36_000, 1, 1, 1, 0],
     // Conditions.
     [5, 1, 0, 0, 978, 1, 1, 0, 0, 0, 0],
     [5, 1, 0, 0, 978, 1, 1, 1, 1, 1, 1],
@@ -60,7 +61,7 @@ const COLLATERAL: [[u64; 11]; 43] = [
     [5, 1, 0, 0, 978, 1, 1, 2, 2, 2, 2],
 ];
 
-const GUARANTEES: [[u64; 9]; 30] = [
+const GUARANTEES: [[u64; 9]; 31] = [
     // Amount, class, step, currency.
     [0, 1, 0, 978, 1, 1, 1, 1, 1],
     [1_000_000_000_000, 1, 0, 978, 1, 1, 1, 1, 1],
@@ -82,6 +83,7 @@ const GUARANTEES: [[u64; 9]; 30] = [
     [5, 1, 0, 978, 1, 0, 1, 1, 1],
     [5, 1, 0, 978, 360, 360, 1, 1, 1],
     [5, 1, 0, 978, 361, 360, 1, 1, 1],
+    [5, 1, 0, 978, 36_001, 36_000, 1, 1, 1],
     // Conditions.
     [5, 1, 0, 978, 1, 1, 0, 0, 0],
     [5, 1, 0, 978, 1, 1, 2, 1, 1],
@@ -159,14 +161,14 @@ fn new_deal() -> Deal {
 
 fn collateral_rows() {
     let d = new_deal();
-    for i in 0..43 {
+    for i in 0..44 {
         add_collateral(d, COLLATERAL[i]);
     }
 }
 
 fn guarantee_rows() {
     let d = new_deal();
-    for i in 0..30 {
+    for i in 0..31 {
         add_guarantee(d, GUARANTEES[i]);
     }
 }

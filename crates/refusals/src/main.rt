@@ -4,9 +4,11 @@ mod additions;
 mod openings;
 mod records;
 mod show;
+mod sweeps;
 
 fn main() {
     openings::print();
     additions::print();
     records::print();
+    sweeps::print();
 }

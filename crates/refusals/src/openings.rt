@@ -5,7 +5,7 @@ use crate::show::reply;
 use crate::show::text;
 use deal::deal::Deal;
 
-const OPENINGS: [[u64; 10]; 55] = [
+const OPENINGS: [[u64; 10]; 57] = [
     // Amount.
     [0, 3, 0, 978, 3, 1, 1800, 1, 0, 0],
     [1_000_000_000_000, 3, 0, 978, 3, 1, 1800, 1, 0, 0],
@@ -59,6 +59,9 @@ const OPENINGS: [[u64; 10]; 55] = [
     [500, 3, 0, 978, 3, 1, 1800, 6, 1, 0],
     [500, 3, 0, 978, 3, 1, 1800, 6, 1, 36_000],
     [500, 3, 0, 978, 3, 1, 1800, 6, 1, 36_001],
+    // The codes between, and the terms' own kinds of goods.
+    [500, 2, 0, 978, 2, 1, 1800, 7, 0, 0],
+    [500, 2, 5, 978, 2, 1, 1800, 8, 0, 0],
     // Several faults at once: the first number is given.
     [1_000_000_000_001, 5, 7, 0, 4, 0, 0, 10, 7, 1],
     [500, 5, 7, 0, 3, 0, 0, 1, 7, 1],
@@ -71,7 +74,7 @@ const OPENINGS: [[u64; 10]; 55] = [
 ];
 
 fn opening(i: usize)
-    requires { ⌜ i < 55 ⌝ }
+    requires { ⌜ i < 57 ⌝ }
 {
     let f = OPENINGS[i];
     text(b"open");
@@ -82,7 +85,7 @@ fn opening(i: usize)
 }
 
 pub fn print() {
-    for i in 0..55 {
+    for i in 0..57 {
         opening(i);
     }
 }

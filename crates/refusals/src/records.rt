@@ -143,6 +143,60 @@ const COLLATERAL_FIELDS: [u64; 11] = [1_000_000_000_001, 10, 7, 0, 0, 91, 36_001
 
 const GUARANTEE_FIELDS: [u64; 9] = [1_000_000_000_001, 4, 7, 0, 91, 36_001, 2, 2, 2];
 
+// One wrong item at this place, and good ones around it.
+fn collateral_place(at: usize, count: usize)
+    requires { ⌜ at < 16 ⌝ }
+{
+    let mut list = collateral_list(COLLATERAL, COLLATERAL, count);
+    let item = collateral_of(NO_COLLATERAL);
+    list.items[at] = item;
+    both(
+        terms_of(TERMS),
+        list,
+        guarantee_list(GUARANTEE, GUARANTEE, 16),
+    );
+}
+
+fn guarantee_place(at: usize, count: usize)
+    requires { ⌜ at < 16 ⌝ }
+{
+    let mut list = guarantee_list(GUARANTEE, GUARANTEE, count);
+    let item = guarantee_of(NO_GUARANTEE);
+    list.items[at] = item;
+    both(
+        terms_of(TERMS),
+        collateral_list(COLLATERAL, COLLATERAL, 16),
+        list,
+    );
+}
+
+fn places() {
+    text(b"records: places\n");
+    collateral_place(2, 3);
+    collateral_place(3, 3);
+    collateral_place(15, 15);
+    collateral_place(15, 16);
+    guarantee_place(2, 3);
+    guarantee_place(3, 3);
+    guarantee_place(15, 15);
+    guarantee_place(15, 16);
+}
+
+// Below the least, and the record that stands beside a refused opening.
+fn zeros() {
+    text(b"records: zeros\n");
+    term_field(1, 0);
+    term_field(3, 0);
+    term_field(4, 0);
+    term_field(5, 0);
+    term_field(6, 0);
+    term_field(7, 0);
+    let refused = Deal::open(1_000, 3, 7, 978, 3, 1, 1_800, 1, 0, 0);
+    let none = refused.deal;
+    add_collateral(none, COLLATERAL);
+    add_guarantee(none, GUARANTEE);
+}
+
 fn all_counts() {
     text(b"records: counts\n");
     counts(1, 1);
@@ -185,4 +239,6 @@ pub fn print() {
     term_fields();
     collateral_fields();
     guarantee_fields();
+    places();
+    zeros();
 }

@@ -85,5 +85,9 @@ pub fn reply(r: Reply) {
     collateral(deal.collateral);
     text(b" |");
     guarantees(deal.guarantees);
-    text(b"\n");
+    if deal.accepted() {
+        text(b" | accepted\n");
+    } else {
+        text(b" | not accepted\n");
+    }
 }

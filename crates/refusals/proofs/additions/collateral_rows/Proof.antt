@@ -5,10 +5,10 @@ use Rattle.refusals.proofs.additions.collateral_rows.Statement.{stateme
 use Rattle.refusals.proofs.additions.collateral_rows.Tie as tie
 
 abbrev Inv-loop : tie.InvT-loop
-Inv-loop d i₀ i = i ≤ 43
+Inv-loop d i₀ i = i ≤ 44
 
 abbrev μ-loop : tie.MeasureT-loop
-μ-loop d i₀ i = 43 - i
+μ-loop d i₀ i = 44 - i
 
 -- src/additions.rt:161:9
 new-deal-requires : tie.Need-new-deal-requires Inv-loop μ-loop

@@ -5,10 +5,10 @@ use Rattle.refusals.proofs.additions.guarantee_rows.Statement.{statemen
 use Rattle.refusals.proofs.additions.guarantee_rows.Tie as tie
 
 abbrev Inv-loop : tie.InvT-loop
-Inv-loop d i₀ i = i ≤ 30
+Inv-loop d i₀ i = i ≤ 31
 
 abbrev μ-loop : tie.MeasureT-loop
-μ-loop d i₀ i = 30 - i
+μ-loop d i₀ i = 31 - i
 
 -- src/additions.rt:168:9
 new-deal-requires : tie.Need-new-deal-requires Inv-loop μ-loop

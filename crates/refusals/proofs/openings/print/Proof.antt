@@ -5,10 +5,10 @@ use Rattle.refusals.proofs.openings.print.Statement.{statement}
 use Rattle.refusals.proofs.openings.print.Tie as tie
 
 abbrev Inv-loop : tie.InvT-loop
-Inv-loop i₀ i = i ≤ 55
+Inv-loop i₀ i = i ≤ 57
 
 abbrev μ-loop : tie.MeasureT-loop
-μ-loop i₀ i = 55 - i
+μ-loop i₀ i = 57 - i
 
 -- src/openings.rt:85:5
 loop-holds : tie.Need-loop-holds Inv-loop μ-loop
