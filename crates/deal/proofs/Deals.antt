@@ -7,21 +7,19 @@ use native.Mathlib.Omega.{arith}
 use lib.Dec.{leb, eqb}
 use borrow.Author.Tests.{le-leb, leb-false, eq-eqb}
 use Rattle.base.specs.All.{all}
-use Rattle.base.specs.Choice.{if_then_else_}
-use Rattle.base.specs.FirstMet.{firstMet}
-use Rattle.base.specs.Range.{within}
 use Rattle.base.proofs.Choice.{if-true, if-false}
 use Rattle.base.proofs.Every.{both}
 use Rattle.base.proofs.All.{all-set}
 use Rattle.base.proofs.FirstMet.{none-exactly, none-met}
 use Rattle.base.proofs.Tests.{and-true, told-not-true}
-use Rattle.deal.specs.Terms.{termsTests, termsRefusal}
+use Rattle.deal.specs.Terms.{termsRefusal}
 use Rattle.deal.specs.Items.{collateralTests, collateralRefusal, collateralListAllowed, guaranteeTests, guaranteeRefusal, guaranteeListAllowed, appendCollateral, appendGuarantee, listLimit}
 use Rattle.deal.specs.Deals.{accepted, openedDeal, withoutProtection, addCollateralTests, addCollateralRefusal, withCollateral, addGuaranteeTests, addGuaranteeRefusal, withGuarantee}
 use Rattle.deal.specs.declared.terms.Terms.{Terms}
 use Rattle.deal.specs.declared.collateral.Collateral.{Collateral}
 use Rattle.deal.specs.declared.guarantee.Guarantee.{Guarantee}
 use Rattle.deal.specs.declared.deal.Deal.{Deal}
+use Rattle.deal.proofs.Cases.{zero-refused}
 
 -- Opening
 
@@ -33,8 +31,8 @@ new-accepted t e =
 
 -- what stands beside a refusal is no deal
 pub refused-not-accepted : (t : Terms) → eqb (termsRefusal t) 0 ≡ false → accepted (openedDeal t) ≡ false
-unfolding accepted openedDeal termsRefusal termsTests firstMet within if_then_else_
-refused-not-accepted t e = rw (if-false _ _ _ e) refl
+unfolding accepted openedDeal
+refused-not-accepted t e = rw (if-false _ _ _ e, zero-refused) refl
 
 -- Adding collateral
 

@@ -1,4 +1,4 @@
-pub mod Edges
+pub mod Cases
 pub mod Answers
 pub mod Deals
 pub mod Exact

@@ -39,6 +39,11 @@ opened-edges : opened ≡ 0 ∷ 3 ∷ 0 ∷ 0 ∷ 1 ∷ 1 ∷ 2 ∷ 3 ∷ 4 ∷ 
 unfolding termsRefusal termsTests firstMet within partyStepAllowed assetStepAllowed lifeAllowed if_then_else_
 opened-edges = refl
 
+-- the record of zeros that stands beside a refusal: 0 is no class
+pub zero-refused : termsRefusal (termsOf 0 0 0 0 0 0 0 0 0 0) ≡ 2
+unfolding termsRefusal termsTests firstMet within partyStepAllowed assetStepAllowed lifeAllowed if_then_else_
+zero-refused = refl
+
 -- sovereign debt in the deal's currency
 abbrev pledge : ℕ → ℕ → ℕ → ℕ → ℕ → Collateral
 pledge amount step residual original listed = record {
