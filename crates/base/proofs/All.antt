@@ -1,8 +1,8 @@
 -- A test of the first n elements of a list, for loops that make it one element at a time. Assumes nothing.
 use Prim.Native.Nat.{ℕ, zero, suc, _+_, _<_}
-use mathlib.Core.Path.{_≡_, refl}
+use mathlib.Core.Path.{_≡_, refl, ap}
 use mathlib.Core.Bool.{Bool, true, false, _&&_}
-use mathlib.Core.List.{List, [], _∷_}
+use mathlib.Core.List.{List, [], _∷_, map}
 use native.Mathlib.Omega.{arith}
 use native.Mathlib.Nat.{le-of-suc-le-suc, not-suc-le-zero}
 use native.Mathlib.Numerals.{add-one}
@@ -52,3 +52,12 @@ module _ {A : Type 0} (p : A → Bool) where
   all-from zero xs d h = refl
   all-from (suc n) [] d h = refl
   all-from (suc n) (x ∷ xs) d h = and-true (p x) _ (h zero (omega arith) (omega arith)) (all-from n xs d (λ i a b. h (suc i) (omega arith) (omega arith)))
+
+-- of a list that is mapped, and of a second test that passes where the first does
+pub all-map : {A B : Type 0} (f : A → B) (p : B → Bool) (xs : List A) → all (map f xs) p ≡ all xs (λ x. p (f x))
+all-map f p [] = refl
+all-map f p (x ∷ xs) = ap (λ b. p (f x) && b) (all-map f p xs)
+
+pub all-implied : {A : Type 0} (p q : A → Bool) → ((x : A) → p x ≡ true → q x ≡ true) → (xs : List A) → all xs p ≡ true → all xs q ≡ true
+all-implied p q h [] e = refl
+all-implied p q h (x ∷ xs) e = let b = both (p x) (all xs p) e in and-true _ _ (h x (b .0)) (all-implied p q h xs (b .1))

@@ -1,19 +1,28 @@
--- The laws of numbered tests in order. Assumes nothing.
+-- The laws of tests in order, and of numbered ones. Assumes nothing.
 use Prim.Native.Nat.{ℕ}
-use mathlib.Core.Path.{_≡_, refl, sym}
+use mathlib.Core.Path.{_≡_, refl, sym, _∙_}
 use mathlib.Core.Bool.{Bool, true, false, not, _&&_}
 use mathlib.Core.List.{List, [], _∷_}
 use lib.Dec.{eqb}
 use borrow.Author.Tests.{eqb-true, eq-eqb}
 use Rattle.base.specs.Choice.{if_then_else_}
-use Rattle.base.specs.FirstMet.{Test, _when_, firstMet}
-use Rattle.base.proofs.Choice.{never, if-true, if-false}
+use Rattle.base.specs.FirstMet.{Test, _when_, firstOr, firstMet}
+use Rattle.base.proofs.Choice.{never, either, if-true, if-false}
 use Rattle.base.proofs.Every.{both}
 
 -- no test is met
-abbrev pub NoneMet : List Test → Type 0
+abbrev pub NoneMet : {A : Type 0} → List (Test A) → Type 0
 NoneMet [] = Unit {0}
 NoneMet ((n when met) ∷ ts) = (met ≡ false) × NoneMet ts
+
+-- whatever a test gives has this property
+abbrev pub EachGives : {A : Type 0} → (A → Type 0) → List (Test A) → Type 0
+EachGives P [] = Unit {0}
+EachGives P ((given when met) ∷ ts) = P given × EachGives P ts
+
+pub gives-more : {A : Type 0} {P Q : A → Type 0} → ((a : A) → P a → Q a) → (ts : List (Test A)) → EachGives P ts → EachGives Q ts
+gives-more f [] h = tt
+gives-more f ((given when met) ∷ ts) h = (f given (h .0), gives-more f ts (h .1))
 
 -- a test is met, where it is the one asked for; else it is not, and what is asked of the later ones holds
 abbrev Here : Bool → Bool → Type 0 → Type 0
@@ -21,17 +30,17 @@ Here true met later = met ≡ true
 Here false met later = (met ≡ false) × later
 
 -- the test with this number is met, and none before it
-abbrev pub FirstIs : ℕ → List Test → Type 0
+abbrev pub FirstIs : ℕ → List (Test ℕ) → Type 0
 FirstIs k [] = ⊥
 FirstIs k ((n when met) ∷ ts) = Here (eqb k n) met (FirstIs k ts)
 
 -- no test has this number
-abbrev absent : ℕ → List Test → Bool
+abbrev absent : ℕ → List (Test ℕ) → Bool
 absent k [] = true
 absent k ((n when met) ∷ ts) = not (eqb k n) && absent k ts
 
 -- the numbers differ, and none is 0
-abbrev pub distinct : List Test → Bool
+abbrev pub distinct : List (Test ℕ) → Bool
 distinct [] = true
 distinct ((n when met) ∷ ts) = not (eqb n 0) && (absent n ts && distinct ts)
 
@@ -40,17 +49,48 @@ unequal true e = absurd (never e refl)
 unequal false e = refl
 
 -- for code that makes the tests one by one
-pub met-first : (n : ℕ) (met : Bool) (ts : List Test) → met ≡ true → firstMet ((n when met) ∷ ts) ≡ n
-unfolding firstMet
-met-first n met ts e = if-true met n (firstMet ts) e
+module _ {A : Type 0} (none : A) where
+  pub first-given : (given : A) (met : Bool) (ts : List (Test A)) → met ≡ true → firstOr none ((given when met) ∷ ts) ≡ given
+  unfolding firstOr
+  first-given given met ts e = if-true met given (firstOr none ts) e
 
-pub not-met : (n : ℕ) (met : Bool) (ts : List Test) → met ≡ false → firstMet ((n when met) ∷ ts) ≡ firstMet ts
-unfolding firstMet
-not-met n met ts e = if-false met n (firstMet ts) e
+  pub first-later : (given : A) (met : Bool) (ts : List (Test A)) → met ≡ false → firstOr none ((given when met) ∷ ts) ≡ firstOr none ts
+  unfolding firstOr
+  first-later given met ts e = if-false met given (firstOr none ts) e
+
+  pub none-given : (ts : List (Test A)) → NoneMet ts → firstOr none ts ≡ none
+  unfolding firstOr
+  none-given [] h = refl
+  none-given ((given when met) ∷ ts) h = if-false met given (firstOr none ts) (h .0) ∙ none-given ts (h .1)
+
+  -- what holds of all that may be given, and of the other where no test is met, holds of the one given
+  pub first-holds : (P : A → Type 0) (ts : List (Test A)) → EachGives P ts → (NoneMet ts → P none) → P (firstOr none ts)
+  unfolding firstOr
+  first-holds P [] each n = n tt
+  first-holds P ((given when met) ∷ ts) each n =
+      either P met (λ e. each .0) (λ e. first-holds P ts (each .1) (λ later. n (e, later)))
+
+pub met-first : (n : ℕ) (met : Bool) (ts : List (Test ℕ)) → met ≡ true → firstMet ((n when met) ∷ ts) ≡ n
+met-first n met ts e = first-given 0 n met ts e
+
+pub not-met : (n : ℕ) (met : Bool) (ts : List (Test ℕ)) → met ≡ false → firstMet ((n when met) ∷ ts) ≡ firstMet ts
+not-met n met ts e = first-later 0 n met ts e
+
+-- the tests with what they give read by f
+abbrev pub mapped : {A B : Type 0} → (A → B) → List (Test A) → List (Test B)
+mapped f [] = []
+mapped f ((given when met) ∷ ts) = f given when met ∷ mapped f ts
+
+-- what the first one gives, read by f, is what the first of those gives
+pub first-mapped : {A B : Type 0} (f : A → B) (none : A) (ts : List (Test A)) → f (firstOr none ts) ≡ firstOr (f none) (mapped f ts)
+unfolding firstOr if_then_else_
+first-mapped f none [] = refl
+first-mapped f none ((given when true) ∷ ts) = refl
+first-mapped f none ((given when false) ∷ ts) = first-mapped f none ts
 
 -- exactly then is the number given: the one way
-pub first-is : (k : ℕ) (ts : List Test) → FirstIs k ts → firstMet ts ≡ k
-unfolding firstMet if_then_else_
+pub first-is : (k : ℕ) (ts : List (Test ℕ)) → FirstIs k ts → firstMet ts ≡ k
+unfolding firstOr if_then_else_
 first-is k [] h = absurd h
 first-is k ((n when met) ∷ ts) h = go (eqb k n) refl h (first-is k ts)
   where
@@ -58,15 +98,15 @@ first-is k ((n when met) ∷ ts) h = go (eqb k n) refl h (first-is k ts)
     go true e h later = rw h (sym (eqb-true k n e))
     go false e h later = rw (h .0) (later (h .1))
 
-missing : (k : ℕ) (ts : List Test) → eqb k 0 ≡ false → absent k ts ≡ true → firstMet ts ≡ k → ⊥
-unfolding firstMet if_then_else_
+missing : (k : ℕ) (ts : List (Test ℕ)) → eqb k 0 ≡ false → absent k ts ≡ true → firstMet ts ≡ k → ⊥
+unfolding firstOr if_then_else_
 missing k [] z a e = never (eq-eqb k 0 (sym e)) z
 missing k ((n when true) ∷ ts) z a e = never (eq-eqb k n (sym e)) (unequal (eqb k n) (both (not (eqb k n)) _ a .0))
 missing k ((n when false) ∷ ts) z a e = missing k ts z (both (not (eqb k n)) _ a .1) e
 
 -- and the other
-pub first-exactly : (k : ℕ) (ts : List Test) → eqb k 0 ≡ false → distinct ts ≡ true → firstMet ts ≡ k → FirstIs k ts
-unfolding firstMet if_then_else_
+pub first-exactly : (k : ℕ) (ts : List (Test ℕ)) → eqb k 0 ≡ false → distinct ts ≡ true → firstMet ts ≡ k → FirstIs k ts
+unfolding firstOr if_then_else_
 first-exactly k [] z d e = never (eq-eqb k 0 (sym e)) z
 first-exactly k ((n when true) ∷ ts) z d e = rw (eq-eqb k n (sym e)) refl
 first-exactly k ((n when false) ∷ ts) z d e =
@@ -78,23 +118,24 @@ first-exactly k ((n when false) ∷ ts) z d e =
     go false q a later = (refl, later)
 
 -- 0 is given exactly where no test is met
-pub none-met : (ts : List Test) → NoneMet ts → firstMet ts ≡ 0
-unfolding firstMet if_then_else_
-none-met [] h = refl
-none-met ((n when met) ∷ ts) h = rw (h .0) (none-met ts (h .1))
+pub none-met : (ts : List (Test ℕ)) → NoneMet ts → firstMet ts ≡ 0
+none-met ts h = none-given 0 ts h
 
-pub none-exactly : (ts : List Test) → distinct ts ≡ true → firstMet ts ≡ 0 → NoneMet ts
-unfolding firstMet if_then_else_
+pub none-exactly : (ts : List (Test ℕ)) → distinct ts ≡ true → firstMet ts ≡ 0 → NoneMet ts
+unfolding firstOr if_then_else_
 none-exactly [] d e = tt
 none-exactly ((n when true) ∷ ts) d e = absurd (never (eq-eqb n 0 e) (unequal (eqb n 0) (both (not (eqb n 0)) _ d .0)))
 none-exactly ((n when false) ∷ ts) d e = (refl, none-exactly ts (both (absent n ts) _ (both (not (eqb n 0)) _ d .1) .1) e)
 
--- a number other than 0 is given exactly if its test is met and none before it; 0 exactly if none is met
-abbrev pub Exact : List Test → Type 0
-Exact ts =
-    ((k : ℕ) → eqb k 0 ≡ false → (firstMet ts ≡ k → FirstIs k ts) × (FirstIs k ts → firstMet ts ≡ k))
-    × (firstMet ts ≡ 0 → NoneMet ts)
-    × (NoneMet ts → firstMet ts ≡ 0)
+-- n is the number that the tests give: one other than 0 exactly if its test is met and none before it, 0 exactly if none is met
+abbrev pub ExactFor : ℕ → List (Test ℕ) → Type 0
+ExactFor n ts =
+    ((k : ℕ) → eqb k 0 ≡ false → (n ≡ k → FirstIs k ts) × (FirstIs k ts → n ≡ k))
+    × (n ≡ 0 → NoneMet ts)
+    × (NoneMet ts → n ≡ 0)
 
-pub exact : (ts : List Test) → distinct ts ≡ true → Exact ts
+abbrev pub Exact : List (Test ℕ) → Type 0
+Exact ts = ExactFor (firstMet ts) ts
+
+pub exact : (ts : List (Test ℕ)) → distinct ts ≡ true → Exact ts
 exact ts d = (λ k z. (first-exactly k ts z d, first-is k ts), none-exactly ts d, none-met ts)

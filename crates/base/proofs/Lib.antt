@@ -5,5 +5,8 @@ pub mod Every
 pub mod All
 pub mod Arrays
 pub mod FirstMet
+pub mod Placed
+pub mod Places
 pub mod Range
 pub mod Rounding
+pub mod Sum

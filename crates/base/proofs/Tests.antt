@@ -1,8 +1,8 @@
 -- What the branches of a function tell, as rules for `search`: `search tests` closes most returns of a chain of tests. Assumes nothing.
-use borrow.Author.Needs.{needs}
-use borrow.Author.Tests.{le-leb, lt-leb, lt-ltb, le-ltb, eq-eqb, ne-eqb}
 use mathlib.Core.Path.{_≡_, refl, sym, _∙_}
 use mathlib.Core.Bool.{Bool, true, false, not, _&&_, _||_}
+use borrow.Author.Needs.{needs}
+use borrow.Author.Tests.{le-leb, lt-leb, lt-ltb, le-ltb, eq-eqb, ne-eqb}
 use Rattle.base.proofs.Choice.{if-true, if-false, never}
 
 pub not-true : (t : Bool) → t ≡ false → not t ≡ true

@@ -4,7 +4,7 @@ use mathlib.Core.Path.{_≡_, refl}
 use mathlib.Core.List.{List, [], _∷_}
 use lib.ListN.{replicate}
 use Rattle.base.specs.Choice.{if_then_else_}
-use Rattle.base.specs.FirstMet.{firstMet}
+use Rattle.base.specs.FirstMet.{firstMet, firstOr}
 use Rattle.base.specs.Range.{within}
 use Rattle.deal.specs.Parties.{partyStepAllowed}
 use Rattle.deal.specs.Assets.{assetStepAllowed, lifeAllowed}
@@ -36,12 +36,12 @@ opened =
     ∷ []
 
 opened-edges : opened ≡ 0 ∷ 3 ∷ 0 ∷ 0 ∷ 1 ∷ 1 ∷ 2 ∷ 3 ∷ 4 ∷ 5 ∷ 3 ∷ 3 ∷ []
-unfolding termsRefusal termsTests firstMet within partyStepAllowed assetStepAllowed lifeAllowed if_then_else_
+unfolding termsRefusal termsTests firstOr within partyStepAllowed assetStepAllowed lifeAllowed if_then_else_
 opened-edges = refl
 
 -- the record of zeros that stands beside a refusal: 0 is no class
 pub zero-refused : termsRefusal (termsOf 0 0 0 0 0 0 0 0 0 0) ≡ 2
-unfolding termsRefusal termsTests firstMet within partyStepAllowed assetStepAllowed lifeAllowed if_then_else_
+unfolding termsRefusal termsTests firstOr within partyStepAllowed assetStepAllowed lifeAllowed if_then_else_
 zero-refused = refl
 
 -- sovereign debt in the deal's currency
@@ -86,7 +86,7 @@ added =
     ∷ []
 
 added-edges : added ≡ 0 ∷ 0 ∷ 0 ∷ 7 ∷ 8 ∷ 3 ∷ 2 ∷ 7 ∷ 8 ∷ []
-unfolding collateralRefusal collateralTests guaranteeRefusal guaranteeTests firstMet within partyStepAllowed assetStepAllowed lifeAllowed if_then_else_
+unfolding collateralRefusal collateralTests guaranteeRefusal guaranteeTests firstOr within partyStepAllowed assetStepAllowed lifeAllowed if_then_else_
 added-edges = refl
 
 -- a deal at this step of its counterparty, with so many places of its list of collateral counted, each filled alike
@@ -110,5 +110,5 @@ whole =
     ∷ []
 
 whole-edges : whole ≡ 0 ∷ 6 ∷ 40 ∷ 40 ∷ 40 ∷ 0 ∷ []
-unfolding addCollateralRefusal addCollateralTests accepted collateralListAllowed guaranteeListAllowed termsRefusal termsTests collateralRefusal collateralTests guaranteeRefusal guaranteeTests firstMet within partyStepAllowed assetStepAllowed lifeAllowed if_then_else_
+unfolding addCollateralRefusal addCollateralTests accepted collateralListAllowed guaranteeListAllowed termsRefusal termsTests collateralRefusal collateralTests guaranteeRefusal guaranteeTests firstOr within partyStepAllowed assetStepAllowed lifeAllowed if_then_else_
 whole-edges = refl

@@ -39,7 +39,7 @@ zeroGuarantee = record {
   unreflected = 0;
 }
 
--- "A new deal's lists are all zeros"
+-- "A new deal's lists are all zeros"; "Without protection all its lists are empty" (01: Betterments)
 abbrev pub withoutProtection : Terms → Deal
 withoutProtection t = record {
   terms = t;
@@ -57,10 +57,10 @@ unfoldable pub accepted : Deal → Bool
 accepted d = eqb (termsRefusal (d .terms)) 0 && collateralListAllowed (d .collateral) && guaranteeListAllowed (d .guarantees)
 
 -- what adding tests: "40 .. adding's before 6"; "6 that list is full; then 1, 2, 3, 4, 5 .."
-unfoldable pub addCollateralTests : Deal → Collateral → List Test
+unfoldable pub addCollateralTests : Deal → Collateral → List (Test ℕ)
 addCollateralTests d c = 40 when not (accepted d) ∷ 6 when leb listLimit (d .collateral .count) ∷ collateralTests c
 
-unfoldable pub addGuaranteeTests : Deal → Guarantee → List Test
+unfoldable pub addGuaranteeTests : Deal → Guarantee → List (Test ℕ)
 addGuaranteeTests d g = 40 when not (accepted d) ∷ 6 when leb listLimit (d .guarantees .count) ∷ guaranteeTests g
 
 unfoldable pub addCollateralRefusal : Deal → Collateral → ℕ

@@ -17,7 +17,7 @@ use Rattle.deal.specs.declared.guarantee.GuaranteeList.{GuaranteeList}
 -- what adding tests of collateral: "1, 2, 3, 4, 5 as above on the item's fields; 7 residual term above original; 8 a condition
 -- neither 0 nor 1". Of the condition "listed senior bank paper", which "counts only for type 4 at step 0", "either entry is accepted
 -- elsewhere"
-unfoldable pub collateralTests : Collateral → List Test
+unfoldable pub collateralTests : Collateral → List (Test ℕ)
 collateralTests c =
     1 when not (amountAllowed (c .amount))
     ∷ 2 when not (goodsKnown (c .asset))
@@ -29,7 +29,7 @@ collateralTests c =
     ∷ []
 
 -- and of a guarantee
-unfoldable pub guaranteeTests : Guarantee → List Test
+unfoldable pub guaranteeTests : Guarantee → List (Test ℕ)
 guaranteeTests g =
     1 when not (amountAllowed (g .amount))
     ∷ 2 when not (providerKnown (g .provider))

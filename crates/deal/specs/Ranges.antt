@@ -4,7 +4,7 @@ use mathlib.Core.Bool.{Bool}
 use lib.Dec.{leb}
 use Rattle.base.specs.Range.{within}
 
--- "An amount is 0 to 1,000,000,000,000 currency units"
+-- "An amount is 0 to 1,000,000,000,000 currency units, already converted to the reporting currency"
 abbrev pub amountLimit : ℕ
 amountLimit = 1000000000000
 
@@ -23,7 +23,8 @@ daysAllowed days = within 1 36000 days
 abbrev pub intervalAllowed : ℕ → Bool
 intervalAllowed interval = within 1 250 interval
 
--- "A rating step is 1 .. 6 .., 0 unrated"
+-- "A rating step is 1 AAA to AA−, 2 A+ to A−, 3 BBB+ to BBB−, 4 BB+ to BB−, 5 B+ to B−, 6 below B−, 0 unrated; a short-term A-1, A-2,
+-- A-3/P-3 is sent as 1, 2, 3"
 abbrev pub stepAllowed : ℕ → Bool
 stepAllowed step = leb step 6
 

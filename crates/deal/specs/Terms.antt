@@ -27,7 +27,7 @@ kindKnown kind = within 1 3 kind
 
 -- what opening tests: "1 amount over the limit; 2 unknown class, kind or type; 3 step above 6, or not 0 where 0 is due;
 -- 4 currency; 5 interval, term or issue life outside its range"
-unfoldable pub termsTests : Terms → List Test
+unfoldable pub termsTests : Terms → List (Test ℕ)
 termsTests t =
     1 when not (amountAllowed (t .amount))
     ∷ 2 when not (counterpartyKnown (t .counterparty) && kindKnown (t .kind) && goodsKnown (t .lent))

@@ -17,7 +17,7 @@ pub struct Collateral {
     pub amount: u64,
     pub asset: Asset,
     pub currency: u64,
-    // Days that the pledge still runs, and that it ran from the start.
+    // The terms of the pledge in days: what is left of it, and the original one.
     pub residual: u64,
     pub original: u64,
     // Conditions, each 1 met or 0 not met: lawful; unrelated to the counterparty; not already reflected in the rating used;

@@ -16,7 +16,7 @@ pub struct Guarantee {
     pub amount: u64,
     pub provider: Party,
     pub currency: u64,
-    // Days that the guarantee still runs, and that it ran from the start.
+    // The terms of the guarantee in days: what is left of it, and the original one.
     pub residual: u64,
     pub original: u64,
     // Conditions, each 1 met or 0 not met: lawful; direct; not already reflected in the rating used.

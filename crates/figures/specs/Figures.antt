@@ -1,16 +1,25 @@
--- The starred figures of document 01, "Figures at the edges", that speak of tables, scaling and values. Still to come, with
--- deals and reports: "90 gives ground 26", what repo lending "leaves", and the portions of 40 and 60
-use Prim.Native.Nat.{ℕ, _+_, _*_, _<_}
+-- The starred figures of document 01, "Figures at the edges": of tables and scaling as they stand, of items and amounts through the
+-- report of a whole deal.
+use Prim.Native.Nat.{ℕ, _<_}
 use mathlib.Core.Path.{_≡_}
 use mathlib.Core.List.{List, [], _∷_}
+use lib.ListN.{length, getD}
+use Rattle.base.specs.Places.{inPlaces}
 use Rattle.tables.specs.Goods.{cash, otherDebt, otherListedEquity}
 use Rattle.tables.specs.Weights.{retail}
 use Rattle.tables.specs.Table.{table2019}
 use Rattle.scaling.specs.Period.{repoStyle, securedLending, holdingPeriod}
 use Rattle.scaling.specs.Scaling.{scaled}
-use Rattle.valuation.specs.Haircuts.{collateralCut, guaranteeCut, lentCut}
-use Rattle.valuation.specs.Protection.{recognised}
-use Rattle.valuation.specs.Exposure.{raised, weighted}
+use Rattle.deal.specs.Terms.{termsOf}
+use Rattle.deal.specs.Items.{listLimit}
+use Rattle.deal.specs.Deals.{zeroCollateral, zeroGuarantee}
+use Rattle.deal.specs.declared.terms.Terms.{Terms}
+use Rattle.deal.specs.declared.collateral.Collateral.{Collateral}
+use Rattle.deal.specs.declared.guarantee.Guarantee.{Guarantee}
+use Rattle.deal.specs.declared.deal.Deal.{Deal}
+use Rattle.relief.specs.Outcomes.{outcomeValue, outcomeGround}
+use Rattle.relief.specs.Exposure.{raisedExposure}
+use Rattle.relief.specs.Report.{noCollateral, noGuarantee, reportOf}
 
 -- a figure: what the definitions give, and what the paper says of it
 pub data Figure : Type 0 where
@@ -33,10 +42,74 @@ home = 978
 abbrev abroad : ℕ
 abroad = 840
 
--- an amount of 1,000,000 in goods with no step and no issue life, pledged under secured lending with a term of 1,800 days
-abbrev pledged : ℕ → ℕ → ℕ → ℕ → ℕ
-pledged goods currency interval cover =
-    recognised 1000000 (collateralCut (table2019 .haircut goods 0 0) currency home securedLending interval) cover 1800
+-- a deal with these items
+abbrev holding : Terms → List Collateral → List Guarantee → Deal
+holding t cs gs = record {
+  terms = t;
+  collateral = record { items = inPlaces listLimit zeroCollateral cs; count = length cs };
+  guarantees = record { items = inPlaces listLimit zeroGuarantee gs; count = length gs };
+}
+
+-- secured lending in cash to an unrated corporate, which weighs 100, for 1,800 days
+abbrev loan : ℕ → ℕ → Terms
+loan amount interval = termsOf amount 3 0 home securedLending interval 1800 cash 0 0
+
+-- repo-style lending of other listed equity, revalued every six days
+abbrev repo : Terms
+repo = termsOf 100 3 0 home repoStyle 6 1800 otherListedEquity 0 0
+
+-- goods with no step and no issue life, every condition met
+abbrev pledge : ℕ → ℕ → ℕ → ℕ → ℕ → Collateral
+pledge amount goods currency residual original = record {
+  amount = amount;
+  asset = record { goods = goods; step = 0; life = 0 };
+  currency = currency;
+  residual = residual;
+  original = original;
+  lawful = 1;
+  unrelated = 1;
+  unreflected = 1;
+  listed = 0;
+}
+
+-- for 1,800 days, every condition met
+abbrev guarantee : ℕ → ℕ → ℕ → ℕ → Guarantee
+guarantee amount class step currency = record {
+  amount = amount;
+  provider = record { class = class; step = step };
+  currency = currency;
+  residual = 1800;
+  original = 1800;
+  lawful = 1;
+  direct = 1;
+  unreflected = 1;
+}
+
+-- what is reported of the only item of collateral of a loan of 2,000,000: its value, and its ground or 0
+abbrev value : ℕ → Collateral → ℕ
+value interval c = outcomeValue (getD (reportOf (holding (loan 2000000 interval) (c ∷ []) []) .collateral) 0 noCollateral .outcome)
+
+abbrev ground : ℕ → Collateral → ℕ
+ground interval c = outcomeGround (getD (reportOf (holding (loan 2000000 interval) (c ∷ []) []) .collateral) 0 noCollateral .outcome)
+
+-- of an only guarantee
+abbrev guaranteed : ℕ → Guarantee → ℕ
+guaranteed interval g = outcomeValue (getD (reportOf (holding (loan 2000000 interval) [] (g ∷ [])) .guarantees) 0 noGuarantee .outcome)
+
+-- the exposure after an amount of cash, under the repo
+abbrev left : ℕ → ℕ
+left amount = reportOf (holding repo (pledge amount cash home 1800 1800 ∷ []) []) .exposure
+
+-- an exposure of 100, with a bank at step 1, which weighs 20, before a sovereign at step 1, which weighs 0
+abbrev covered : Deal
+covered = holding (loan 100 1) [] (guarantee 80 2 1 home ∷ guarantee 60 1 1 home ∷ [])
+
+abbrev portion : ℕ → ℕ
+portion place = getD (reportOf covered .guarantees) place noGuarantee .portion
+
+-- a retail deal with nothing pledged
+abbrev retailAmount : ℕ → ℕ
+retailAmount amount = reportOf (holding (termsOf amount retail 0 home securedLending 1 1800 cash 0 0) [] []) .weighted
 
 abbrev pub starred : List Figure
 starred =
@@ -48,22 +121,30 @@ starred =
     ∷ is (scaled 10000 40) 20000
     -- "Type 8, kind 3, interval 250: scaled haircut above 1,000,000, value 0"
     ∷ above (scaled (table2019 .haircut otherListedEquity 0 0) (holdingPeriod securedLending 250)) 1000000
-    ∷ is (pledged otherListedEquity home 250 1800) 0
+    ∷ is (value 250 (pledge 1000000 otherListedEquity home 1800 1800)) 0
+    ∷ is (ground 250 (pledge 1000000 otherListedEquity home 1800 1800)) 0
     -- "Type 3, step 3, life 360: 20000; 361: 60000"
     ∷ is (table2019 .haircut otherDebt 3 360) 20000
     ∷ is (table2019 .haircut otherDebt 3 361) 60000
-    -- "Same-currency cash 1,000,000 .. deal term 1,800: term 900 gives 473684; 91 gives 584"
-    ∷ is (pledged cash home 1 900) 473684
-    ∷ is (pledged cash home 1 91) 584
+    -- "Same-currency cash 1,000,000, original 1,080, deal term 1,800: term 900 gives 473684; 91 gives 584; 90 gives ground 26"
+    ∷ is (value 1 (pledge 1000000 cash home 900 1080)) 473684
+    ∷ is (value 1 (pledge 1000000 cash home 91 1080)) 584
+    ∷ is (ground 1 (pledge 1000000 cash home 90 1080)) 26
     -- "Cash 1,000,000 in another currency, kind 3, interval 1: 886862"
-    ∷ is (pledged cash abroad 1 1800) 886862
+    ∷ is (value 1 (pledge 1000000 cash abroad 1800 1800)) 886862
     -- "Guarantee 200,000 in another currency, interval 1, no mismatch: 184000"
-    ∷ is (recognised 200000 (guaranteeCut abroad home 1) 1800 1800) 184000
-    -- "Repo lending type 8, amount 100, interval 6: raised to 125"
-    ∷ is (raised 100 (lentCut (table2019 .lentHaircut otherListedEquity 0 0) repoStyle 6)) 125
-    -- "portions 40 and 60, weighted amount 8", at weights 20 and 0
-    ∷ is (weighted (40 * 20 + 60 * 0)) 8
+    ∷ is (guaranteed 1 (guarantee 200000 1 1 abroad)) 184000
+    -- "Repo lending type 8, amount 100, interval 6: raised to 125; same-currency cash 10, unmismatched, leaves E* 100 (not 115); cash 125
+    -- leaves 0"
+    ∷ is (raisedExposure table2019 repo) 125
+    ∷ is (left 10) 100
+    ∷ is (left 125) 0
+    -- "E* 100; guarantee of 80 at weight 20 added before one of 60 at 0: portions 40 and 60, weighted amount 8"
+    ∷ is (reportOf covered .exposure) 100
+    ∷ is (portion 0) 40
+    ∷ is (portion 1) 60
+    ∷ is (reportOf covered .weighted) 8
     -- "Retail, amount 1: weighted amount 1. Amount 0: 0"
-    ∷ is (weighted (1 * table2019 .counterpartyWeight retail 0)) 1
-    ∷ is (weighted (0 * table2019 .counterpartyWeight retail 0)) 0
+    ∷ is (retailAmount 1) 1
+    ∷ is (retailAmount 0) 0
     ∷ []

@@ -3,13 +3,13 @@ ghost use Prim.Native.Nat.{_≤_};
 use scaling::period::guarantee_period;
 use scaling::period::holding_period;
 use scaling::scaling::scaled_haircut;
+use scaling::shared::ScaledHaircuts;
 use tables::haircuts::haircut;
 use tables::haircuts::lent_haircut;
 use valuation::exposure::raised;
 use valuation::exposure::weighted;
 use valuation::haircuts::collateral_cut;
-use valuation::haircuts::guarantee_cut;
-use valuation::haircuts::lent_cut;
+use valuation::haircuts::currency_cut;
 use valuation::protection::recognised;
 
 const HOME: u64 = 978;
@@ -58,8 +58,9 @@ fn pledged(
 ) -> u64
     requires { ⌜ (amount ≤ 1000000000000) × ((1 ≤ interval) × (interval ≤ 250)) ⌝ }
 {
-    let cut = collateral_cut(haircut(goods, step, life), currency, HOME, kind, interval);
-    recognised(amount, cut, 1_800, 1_800)
+    let known = ScaledHaircuts::of_period(holding_period(kind, interval));
+    let cut = collateral_cut(known, haircut(goods, step, life), currency, HOME);
+    recognised(amount, cut.haircut, 1_800, 1_800)
 }
 
 fn matched() {
@@ -124,6 +125,15 @@ fn mismatched() {
     );
 }
 
+// A guarantee in another currency, of the same term.
+fn guaranteed(amount: u64, interval: u64) -> u64
+    requires { ⌜ (amount ≤ 1000000000000) × (interval ≤ 250) ⌝ }
+{
+    let known = ScaledHaircuts::of_period(guarantee_period(interval));
+    let cut = currency_cut(known, ABROAD, HOME);
+    recognised(amount, cut.haircut, 1_800, 1_800)
+}
+
 fn abroad() {
     figure(
         b"cash 1000000 in another currency, kind 3, interval 1",
@@ -148,15 +158,15 @@ fn abroad() {
     );
     figure(
         b"guarantee 200000 in another currency, interval 1",
-        recognised(200_000, guarantee_cut(ABROAD, HOME, 1), 1_800, 1_800),
+        guaranteed(200_000, 1),
     );
     figure(
         b"guarantee 200000 in another currency, interval 11",
-        recognised(200_000, guarantee_cut(ABROAD, HOME, 11), 1_800, 1_800),
+        guaranteed(200_000, 11),
     );
     figure(
         b"guarantee 200000 in another currency, interval 250",
-        recognised(200_000, guarantee_cut(ABROAD, HOME, 250), 1_800, 1_800),
+        guaranteed(200_000, 250),
     );
 }
 
@@ -164,7 +174,9 @@ fn abroad() {
 fn lent(amount: u64, goods: u64, step: u64, life: u64) -> u64
     requires { ⌜ amount ≤ 1000000000000 ⌝ }
 {
-    raised(amount, lent_cut(lent_haircut(goods, step, life), 1, 6))
+    let known = ScaledHaircuts::of_period(holding_period(1, 6));
+    let cut = known.scale(lent_haircut(goods, step, life));
+    raised(amount, cut.haircut)
 }
 
 fn exposures() {

@@ -12,13 +12,13 @@ use Rattle.base.proofs.Tests.{and-true}
 use Rattle.tables.specs.Eligibility.{eligible, bankDebtEligible, equityOrGold}
 use Rattle.tables.specs.Haircuts.{bandOf, rowOf, columnOf as issuerColumn, debtHaircut, haircut, lentHaircut}
 use Rattle.tables.specs.Weights.{columnOf, tableWeight, providerWeight}
-use Rattle.tables.specs.Table.{Table, TableLaws, Better, table2019}
+use Rattle.tables.specs.Table.{Table, TableLaws, NoWorseStep, table2019}
 use Rattle.tables.proofs.Bands.{sample, band-below, haircut-sample, lent-sample}
 
 abbrev better : ℕ → ℕ → Bool
 better s s′ = leb 1 s′ && leb s′ s
 
-is-better : (s s′ : ℕ) → Better s′ s → better s s′ ≡ true
+is-better : (s s′ : ℕ) → NoWorseStep s′ s → better s s′ ≡ true
 is-better s s′ r = and-true _ _ (le-leb 1 s′ (r .0)) (le-leb s′ s (r .1 .0))
 
 module _ (t : Table) (sample : ℕ → ℕ) where
@@ -56,25 +56,25 @@ module _
   at-goods g s hg hs =
       every-at 7 (goodsTest t sample bands g) (every-at 10 (λ g. every 7 (goodsTest t sample bands g)) (both (every 10 (λ g. every 7 (goodsTest t sample bands g))) _ passed .0) g (omega arith)) s (omega arith)
 
-  at-step : (g s s′ l : ℕ) → g ≤ 9 → Better s′ s → stepped t sample g s s′ (bandOf l) ≡ true
+  at-step : (g s s′ l : ℕ) → g ≤ 9 → NoWorseStep s′ s → stepped t sample g s s′ (bandOf l) ≡ true
   at-step g s s′ l hg r =
       every-at bands (stepped t sample g s s′)
       (implied _ _ (every-at 7 (steps t sample bands g s) (both (implies (t .eligible g s 0) (t .eligible g s 1)) _ (at-goods g s hg (r .1 .1)) .1) s′ (omega arith)) (is-better s s′ r))
       (bandOf l) (band-below l)
 
-  at-kept : (g s s′ k l : ℕ) → g ≤ 9 → Better s′ s → k ≤ 1 → t .eligible g s k ≡ true →
+  at-kept : (g s s′ k l : ℕ) → g ≤ 9 → NoWorseStep s′ s → k ≤ 1 → t .eligible g s k ≡ true →
       (t .eligible g s′ k && leb (t .haircut g s′ (sample (bandOf l))) (t .haircut g s (sample (bandOf l)))) ≡ true
   at-kept g s s′ k l hg r hk e =
       implied _ _ (every-at 2 (kept t sample g s s′ (bandOf l)) (both (every 2 (kept t sample g s s′ (bandOf l))) _ (at-step g s s′ l hg r) .0) k (omega arith)) e
 
-  at-haircut : (g s s′ k l : ℕ) → g ≤ 9 → Better s′ s → k ≤ 1 → t .eligible g s k ≡ true →
+  at-haircut : (g s s′ k l : ℕ) → g ≤ 9 → NoWorseStep s′ s → k ≤ 1 → t .eligible g s k ≡ true →
       t .haircut g s′ (sample (bandOf l)) ≤ t .haircut g s (sample (bandOf l))
   at-haircut g s s′ k l hg r hk e = leb-true _ _ (both (t .eligible g s′ k) _ (at-kept g s s′ k l hg r hk e) .1)
 
-  at-lent : (g s s′ l : ℕ) → g ≤ 9 → Better s′ s → t .lentHaircut g s′ (sample (bandOf l)) ≤ t .lentHaircut g s (sample (bandOf l))
+  at-lent : (g s s′ l : ℕ) → g ≤ 9 → NoWorseStep s′ s → t .lentHaircut g s′ (sample (bandOf l)) ≤ t .lentHaircut g s (sample (bandOf l))
   at-lent g s s′ l hg r = leb-true _ _ (both (every 2 (kept t sample g s s′ (bandOf l))) _ (at-step g s s′ l hg r) .1)
 
-  at-weight : (c s s′ : ℕ) → c ≤ 3 → Better s′ s → weightTest t sample c s s′ ≡ true
+  at-weight : (c s s′ : ℕ) → c ≤ 3 → NoWorseStep s′ s → weightTest t sample c s s′ ≡ true
   at-weight c s s′ hc r =
       every-at 7 (weightTest t sample c s)
       (every-at 7 (λ s. every 7 (weightTest t sample c s))

@@ -1,5 +1,4 @@
 -- Types of goods. 01: What a deal holds, "Goods types".
--- A rating step is 1 AAA to AA−, 2 A+ to A−, 3 BBB+ to BBB−, 4 BB+ to BB−, 5 B+ to B−, 6 below B−, 0 unrated
 use Prim.Native.Nat.{ℕ}
 
 abbrev pub cash : ℕ

@@ -34,7 +34,7 @@ columnOf goods = if eqb goods sovereignDebt then 0 else if eqb goods securitisat
 unfoldable pub debtHaircut : ℕ → ℕ → ℕ → ℕ
 debtHaircut goods step life = cell (rowOf step) (bandOf life) (columnOf goods)
 
--- goods of this type, step and issue life, asked for only where they are eligible
+-- goods of this type, step and issue life; the figure counts only where they are eligible
 unfoldable pub haircut : ℕ → ℕ → ℕ → ℕ
 haircut goods step life =
     if eqb goods cash then 0 else
@@ -49,6 +49,6 @@ haircut goods step life =
 unfoldable pub lentHaircut : ℕ → ℕ → ℕ → ℕ
 lentHaircut goods step life = if eligible goods step 0 then haircut goods step life else 250000
 
--- "Different currencies: 80000 besides". CRE22.46 for collateral, CRE22.95 for guarantees
+-- "Different currencies: 80000 besides". CRE22.46 for collateral, CRE22.94 and CRE22.95 for guarantees
 abbrev pub currencyHaircut : ℕ
 currencyHaircut = 80000

@@ -35,25 +35,25 @@ Goods goods = (1 ≤ goods) × (goods ≤ 9)
 abbrev pub Provider : ℕ → Type 0
 Provider class = (1 ≤ class) × (class ≤ 3)
 
--- a step no worse than another, both of them rated
-abbrev pub Better : ℕ → ℕ → Type 0
-Better step′ step = (1 ≤ step′) × ((step′ ≤ step) × (step ≤ 6))
+-- a new step no worse than the old, both of them rated
+abbrev pub NoWorseStep : ℕ → ℕ → Type 0
+NoWorseStep step′ step = (1 ≤ step′) × ((step′ ≤ step) × (step ≤ 6))
 
 pub record TableLaws (t : Table) : Type 0 where
   -- a better step stays eligible
   pub step-eligible :
-      (goods step step′ listed : ℕ) → Goods goods → Better step′ step → listed ≤ 1 → t .eligible goods step listed ≡ true →
+      (goods step step′ listed : ℕ) → Goods goods → NoWorseStep step′ step → listed ≤ 1 → t .eligible goods step listed ≡ true →
       t .eligible goods step′ listed ≡ true
   -- and has no larger haircut
   pub step-haircut :
-      (goods step step′ listed life : ℕ) → Goods goods → Better step′ step → listed ≤ 1 → t .eligible goods step listed ≡ true →
+      (goods step step′ listed life : ℕ) → Goods goods → NoWorseStep step′ step → listed ≤ 1 → t .eligible goods step listed ≡ true →
       t .haircut goods step′ life ≤ t .haircut goods step life
   -- nor have goods lent, whether eligible or not
   pub step-lent :
-      (goods step step′ life : ℕ) → Goods goods → Better step′ step → t .lentHaircut goods step′ life ≤ t .lentHaircut goods step life
+      (goods step step′ life : ℕ) → Goods goods → NoWorseStep step′ step → t .lentHaircut goods step′ life ≤ t .lentHaircut goods step life
   -- a better provider weighs no more
   pub step-weight :
-      (class step step′ : ℕ) → Provider class → Better step′ step → t .providerWeight class step′ ≤ t .providerWeight class step
+      (class step step′ : ℕ) → Provider class → NoWorseStep step′ step → t .providerWeight class step′ ≤ t .providerWeight class step
   -- a listing takes nothing away
   pub listed-eligible :
       (goods step : ℕ) → Goods goods → step ≤ 6 → t .eligible goods step 0 ≡ true → t .eligible goods step 1 ≡ true

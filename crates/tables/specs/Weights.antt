@@ -1,5 +1,5 @@
 -- Risk weights in percent. CRE20.4, CRE20.14 option 2, CRE20.17, CRE20.20; 01: Risk weights in percent.
--- "The weight comes from class and step alone." Classes and steps outside the table are refused when a deal is opened
+-- "The weight comes from class and step alone." Other classes and steps are refused by opening, adding and reporting
 use Prim.Native.Nat.{ℕ, _-_}
 use mathlib.Core.List.{List, [], _∷_}
 use lib.Dec.{eqb}

@@ -1,5 +1,6 @@
 -- The value of protection that no ground leaves out. 01: From items to the weighted amount, 1 and 2
 use Prim.Native.Nat.{ℕ, _*_, _-_, _/_, min}
+use mathlib.Core.Bool.{Bool}
 use lib.Dec.{ltb}
 use Rattle.base.specs.Choice.{if_then_else_}
 
@@ -20,8 +21,11 @@ mismatched value cover term =
     value * (t - 90) / (T - 90)
 
 -- "Cover shorter than the deal's residual term is a mismatch". CRE22.97
+abbrev pub isMismatch : ℕ → ℕ → Bool
+isMismatch cover term = ltb cover term
+
 unfoldable pub adjusted : ℕ → ℕ → ℕ → ℕ
-adjusted value cover term = if ltb cover term then mismatched value cover term else value
+adjusted value cover term = if isMismatch cover term then mismatched value cover term else value
 
 -- haircuts first, then a mismatch. CRE22.100(2)
 unfoldable pub recognised : ℕ → ℕ → ℕ → ℕ → ℕ

@@ -4,12 +4,10 @@ use Rattle.base.specs.Range.{within}
 use Rattle.base.proofs.within.Statement.{statement}
 use Rattle.base.proofs.within.Tie as tie
 
--- src/lib.rt:21:9
 returns : tie.Need-returns
 unfolding within
 returns c = search tests
 
--- src/lib.rt:17:1
 returns-2 : tie.Need-returns-2
 unfolding within
 returns-2 c = search tests

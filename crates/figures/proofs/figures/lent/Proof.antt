@@ -3,26 +3,43 @@ use Prim.Native.Nat.{_≤_}
 use native.Mathlib.Omega.{arith}
 use Rattle.base.proofs.Tests.{tests}
 use Rattle.tables.proofs.Bounds.{lent-bound}
-use Rattle.valuation.proofs.Cuts.{lent-cut-bound}
+use Rattle.scaling.proofs.Scaled.{scaled-bound}
+use Rattle.scaling.proofs.Periods.{period-bound}
 use Rattle.figures.proofs.figures.lent.Statement.{statement}
 use Rattle.figures.proofs.figures.lent.Tie as tie
 
-lent-haircut-requires : tie.Need-lent-haircut-requires
-lent-haircut-requires c κs = search tests
+holding-period-requires : tie.Need-holding-period-requires
+holding-period-requires c κs = search tests
 
-lent-cut-requires : tie.Need-lent-cut-requires
-lent-cut-requires c κs =
-    let a = c .before .args in
-    omega (arith, lent-bound (a .goods) (a .step) (a .life))
+of-period-requires : tie.Need-of-period-requires
+of-period-requires c κs = omega (arith, c .holding-period .ensures, period-bound 1 6)
+
+lent-haircut-requires : tie.Need-lent-haircut-requires
+lent-haircut-requires c κs = tt
+
+low : (c : tie.After-lent-haircut) → c .lent-haircut .result ≤ 1000000
+low c =
+    let a = c .before .before .before .args in
+    omega (arith, c .lent-haircut .ensures, lent-bound (a .goods) (a .step) (a .life))
+
+scale-requires : tie.Need-scale-requires
+scale-requires c κs = (low c, c .before .of-period .ensures .1)
 
 raised-requires : tie.Need-raised-requires
 raised-requires c κs =
-    let a = c .before .before .args in
-    let h : c .before .lent-haircut .result ≤ 1000000 = omega (arith, lent-bound (a .goods) (a .step) (a .life)) in
-    omega (arith, lent-cut-bound {interval = 6} 1 h (omega arith))
+    let h = c .before in
+    (h .before .before .before .pre, rw (c .scale .ensures .0) (scaled-bound (low h) (h .before .of-period .ensures .1 .short)))
 
 returns : tie.Need-returns
 returns c = search tests
 
 pub lent-spec : {M : Type 1} → statement M
-lent-spec = tie.close (tie.spec lent-haircut-requires lent-cut-requires raised-requires returns)
+lent-spec =
+    tie.close
+    (tie.spec
+    holding-period-requires
+    of-period-requires
+    lent-haircut-requires
+    scale-requires
+    raised-requires
+    returns)

@@ -8,12 +8,12 @@ returns : tie.Need-returns
 unfolding currencyCut
 returns c = search tests
 
-scaled-haircut-requires : tie.Need-scaled-haircut-requires
-scaled-haircut-requires c κs = search tests
+scale-requires : tie.Need-scale-requires
+scale-requires c κs = search tests
 
 returns-2 : tie.Need-returns-2
 unfolding currencyCut
 returns-2 c = search tests
 
 pub currency-cut-spec : {M : Type 1} → statement M
-currency-cut-spec = tie.close (tie.spec returns scaled-haircut-requires returns-2)
+currency-cut-spec = tie.close (tie.spec returns scale-requires returns-2)

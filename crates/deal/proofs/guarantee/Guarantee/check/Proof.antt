@@ -4,7 +4,7 @@ use mathlib.Core.Path.{_≡_, sym, _∙_}
 use native.Mathlib.Omega.{arith}
 use borrow.Author.Tests.{le-leb, lt-leb, lt-ltb, le-ltb}
 use lib.ListN.{drop}
-use Rattle.base.specs.FirstMet.{firstMet}
+use Rattle.base.specs.FirstMet.{firstMet, firstOr}
 use Rattle.base.proofs.FirstMet.{met-first, not-met}
 use Rattle.base.proofs.Tests.{tests, told-not, not-true, not-false}
 use Rattle.deal.specs.Answers.{answerNumber}
@@ -90,7 +90,7 @@ unfolding guaranteeTests
 past-7 c = past-6 (c .before .before) ∙ not-met 8 _ _ (told-not (c .before .conditions-allowed .ensures) (c .if7 .left))
 
 returns-8 : tie.Need-returns-8
-unfolding guaranteeTests answerNumber firstMet
+unfolding guaranteeTests answerNumber firstOr
 returns-8 c = sym (past-7 c)
 
 pub check-spec : {M : Type 1} → statement M

@@ -4,7 +4,7 @@ use mathlib.Core.Path.{_≡_, sym, _∙_}
 use native.Mathlib.Omega.{arith}
 use borrow.Author.Tests.{le-leb, lt-leb}
 use lib.ListN.{drop}
-use Rattle.base.specs.FirstMet.{firstMet}
+use Rattle.base.specs.FirstMet.{firstMet, firstOr}
 use Rattle.base.proofs.FirstMet.{met-first, not-met}
 use Rattle.base.proofs.Tests.{tests, told-not, not-true, not-false}
 use Rattle.deal.specs.Answers.{answerNumber}
@@ -71,7 +71,7 @@ unfolding termsTests
 past-5 c = past-4 (c .before .before) ∙ not-met 5 _ _ (told-not (c .before .days-in-range .ensures) (c .if5 .left))
 
 returns-6 : tie.Need-returns-6
-unfolding termsTests answerNumber firstMet
+unfolding termsTests answerNumber firstOr
 returns-6 c = sym (past-5 c)
 
 pub check-spec : {M : Type 1} → statement M

@@ -1,0 +1,68 @@
+-- The laws of sums over a list. Assumes nothing.
+use Prim.Native.Nat.{ℕ, zero, suc, _+_, _*_, _≤_, _<_}
+use mathlib.Core.Path.{_≡_, refl, ap}
+use mathlib.Core.List.{List, [], _∷_, _++_, map}
+use native.Mathlib.Numerals.{add-one}
+use native.Mathlib.Omega.{arith}
+use lib.ListN.{length, take, drop, getD, drop-of-length-le}
+use lib.Seq.{drop-cons, take-suc}
+use Rattle.base.specs.Sum.{sumOf}
+
+module _ {A : Type 0} (f : A → ℕ) where
+  pub sum-append : (xs ys : List A) → sumOf f (xs ++ ys) ≡ sumOf f xs + sumOf f ys
+  unfolding sumOf
+  sum-append [] ys = omega arith
+  sum-append (x ∷ xs) ys = omega (arith, sum-append xs ys)
+
+  -- of what a loop has yet to pass: one element less, and at the end nothing
+  pub sum-more : (xs : List A) (i : ℕ) (d : A) → i < length xs → sumOf f (drop i xs) ≡ f (getD xs i d) + sumOf f (drop (i + 1) xs)
+  unfolding sumOf
+  sum-more xs i d h = rw (add-one i, drop-cons xs i d)
+
+  pub sum-end : (xs : List A) (i : ℕ) → length xs ≤ i → sumOf f (drop i xs) ≡ 0
+  unfolding sumOf
+  sum-end xs i h = rw (drop-of-length-le xs h)
+
+  -- of what it has passed: one element more
+  pub sum-take : (xs : List A) (i : ℕ) (d : A) → i < length xs → sumOf f (take (i + 1) xs) ≡ sumOf f (take i xs) + f (getD xs i d)
+  unfolding sumOf
+  sum-take xs i d h = rw (add-one i, take-suc xs i d) (omega (arith, sum-append (take i xs) (getD xs i d ∷ [])))
+
+  -- a part sums to no more than the whole
+  pub sum-take-le : (i : ℕ) (xs : List A) → sumOf f (take i xs) ≤ sumOf f xs
+  unfolding sumOf
+  sum-take-le zero xs = omega arith
+  sum-take-le (suc i) [] = omega arith
+  sum-take-le (suc i) (x ∷ xs) = omega (arith, sum-take-le i xs)
+
+  pub sum-bound : (b : ℕ) → ((x : A) → f x ≤ b) → (xs : List A) → sumOf f xs ≤ length xs * b
+  unfolding sumOf
+  sum-bound b h [] = omega arith
+  sum-bound b h (x ∷ xs) = omega (arith, h x, sum-bound b h xs)
+
+  -- the same where each element of the list, found by its place, keeps to the bound
+  pub sum-bound-at : (b : ℕ) (xs : List A) (d : A) → ((i : ℕ) → i < length xs → f (getD xs i d) ≤ b) → sumOf f xs ≤ length xs * b
+  unfolding sumOf
+  sum-bound-at b [] d h = omega arith
+  sum-bound-at b (x ∷ xs) d h = omega (arith, h zero (omega arith), sum-bound-at b xs d (λ i k. h (suc i) (omega arith)))
+
+module _ {A : Type 0} (f g : A → ℕ) where
+  pub sum-mono : ((x : A) → f x ≤ g x) → (xs : List A) → sumOf f xs ≤ sumOf g xs
+  unfolding sumOf
+  sum-mono h [] = omega arith
+  sum-mono h (x ∷ xs) = omega (arith, h x, sum-mono h xs)
+
+  pub sum-eq : ((x : A) → f x ≡ g x) → (xs : List A) → sumOf f xs ≡ sumOf g xs
+  unfolding sumOf
+  sum-eq h [] = refl
+  sum-eq h (x ∷ xs) = omega (arith, h x, sum-eq h xs)
+
+  pub sum-add : (xs : List A) → sumOf (λ x. f x + g x) xs ≡ sumOf f xs + sumOf g xs
+  unfolding sumOf
+  sum-add [] = refl
+  sum-add (x ∷ xs) = omega (arith, sum-add xs)
+
+pub sum-map : {A B : Type 0} (f : B → ℕ) (g : A → B) (xs : List A) → sumOf f (map g xs) ≡ sumOf (λ x. f (g x)) xs
+unfolding sumOf
+sum-map f g [] = refl
+sum-map f g (x ∷ xs) = ap (λ n. f (g x) + n) (sum-map f g xs)

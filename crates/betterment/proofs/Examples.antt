@@ -1,0 +1,188 @@
+-- Betterments of each kind that lower the reported amount, and a list of them with refused ones, computed. Assumes nothing.
+use Prim.Native.Nat.{ℕ, _≤_}
+use mathlib.Core.Path.{_≡_, refl}
+use mathlib.Core.Bool.{Bool, true, _&&_}
+use mathlib.Core.List.{List, [], _∷_, _++_}
+use native.Mathlib.Omega.{arith}
+use lib.Dec.{ltb}
+use lib.ListN.{replicate}
+use Rattle.base.specs.All.{all}
+use Rattle.base.specs.Choice.{if_then_else_}
+use Rattle.base.specs.FirstMet.{firstOr}
+use Rattle.base.specs.Least.{least, between}
+use Rattle.base.specs.Range.{within}
+use Rattle.base.specs.Rounding.{roundUp}
+use Rattle.base.specs.Sum.{sumOf}
+use Rattle.tables.specs.Eligibility.{eligible, bankDebtEligible, equityOrGold}
+use Rattle.tables.specs.Haircuts.{rowOf, bandOf, columnOf as issuerColumn, debtHaircut, haircut, lentHaircut}
+use Rattle.tables.specs.Weights.{columnOf, tableWeight, counterpartyWeight, providerWeight}
+use Rattle.scaling.specs.Period.{minimumPeriod, holdingPeriod, guaranteePeriod}
+use Rattle.scaling.specs.Scaling.{scaled}
+use Rattle.valuation.specs.Haircuts.{currencyCut, collateralCut}
+use Rattle.valuation.specs.Protection.{keepShare, reduced, mismatched, adjusted, recognised}
+use Rattle.valuation.specs.Exposure.{raised, weighted}
+use Rattle.cover.specs.Cover.{lighter, equal, before, portion, coveredAfter, covered, rest, weightedSum}
+use Rattle.deal.specs.Parties.{partyStepAllowed}
+use Rattle.deal.specs.Assets.{assetStepAllowed, lifeAllowed}
+use Rattle.deal.specs.Terms.{termsOf, termsTests, termsRefusal}
+use Rattle.deal.specs.Items.{collateralTests, collateralRefusal, guaranteeTests, guaranteeRefusal, collateralListAllowed, guaranteeListAllowed}
+use Rattle.deal.specs.Deals.{accepted, withoutProtection}
+use Rattle.deal.specs.declared.terms.Terms.{Terms}
+use Rattle.deal.specs.declared.collateral.Collateral.{Collateral}
+use Rattle.deal.specs.declared.guarantee.Guarantee.{Guarantee}
+use Rattle.deal.specs.declared.deal.Deal.{Deal}
+use Rattle.relief.specs.Outcomes.{outcomeValue}
+use Rattle.relief.specs.Recognition.{shortOriginal, shortResidual, cutOf, collateralValue, collateralGrounds, collateralOutcome, guaranteeValue, guaranteeGrounds, guaranteeOutcome}
+use Rattle.relief.specs.Exposure.{lentCut, raisedExposure, collateralTotal, exposureAfter, weightedAmount}
+use Rattle.relief.specs.Report.{fullReport, reportUnder, reportOf}
+use Rattle.betterment.specs.Changes.{collateralAmount, collateralStep, collateralCurrency, collateralResidual, collateralOriginal, collateralLawful, collateralUnrelated, collateralUnreflected, guaranteeAmount, guaranteeStep, guaranteeCurrency, guaranteeResidual, guaranteeOriginal, guaranteeLawful, guaranteeDirect, guaranteeUnreflected, termsInterval}
+use Rattle.betterment.specs.Views.{View, viewOf, acceptedView, recordOf}
+use Rattle.betterment.specs.Betterments.{BetterCollateral, BetterGuarantee, BetterTerms, OneChanged, OneMore, Better, Betterments}
+use Rattle.betterment.proofs.Theorem.{betterments-never-raise}
+
+-- the first deal of 01, The book: a loan of 1,000,000, sovereign debt of 400,000 and a sovereign's guarantee of 200,000
+abbrev loan : Terms
+loan = termsOf 1000000 3 0 978 3 1 1800 1 0 0
+
+abbrev pledge : ℕ → ℕ → Collateral
+pledge goods step = record {
+  amount = 400000;
+  asset = record { goods = goods; step = step; life = 720 };
+  currency = 978;
+  residual = 1800;
+  original = 1800;
+  lawful = 1;
+  unrelated = 1;
+  unreflected = 1;
+  listed = 0;
+}
+
+abbrev debt : Collateral
+debt = pledge 2 1
+
+abbrev backing : Guarantee
+backing = record {
+  amount = 200000;
+  provider = record { class = 1; step = 1 };
+  currency = 978;
+  residual = 1800;
+  original = 1800;
+  lawful = 1;
+  direct = 1;
+  unreflected = 1;
+}
+
+abbrev deal : Terms → List Collateral → List Guarantee → Deal
+deal t cs gs = recordOf (record { terms = t; collateral = cs; guarantees = gs })
+
+-- the weighted amount that reporting gives, with all that it computes by open
+amount : Deal → ℕ
+unfolding accepted collateralListAllowed guaranteeListAllowed termsRefusal termsTests collateralRefusal collateralTests guaranteeRefusal guaranteeTests firstOr within partyStepAllowed assetStepAllowed lifeAllowed if_then_else_ least between roundUp sumOf eligible bankDebtEligible equityOrGold rowOf bandOf issuerColumn debtHaircut haircut lentHaircut columnOf tableWeight counterpartyWeight providerWeight minimumPeriod holdingPeriod guaranteePeriod scaled currencyCut collateralCut keepShare reduced mismatched adjusted recognised raised weighted lighter equal before portion coveredAfter covered rest weightedSum outcomeValue shortOriginal shortResidual cutOf collateralValue collateralGrounds collateralOutcome guaranteeValue guaranteeGrounds guaranteeOutcome lentCut raisedExposure collateralTotal exposureAfter weightedAmount fullReport reportUnder
+amount d = reportOf d .weighted
+
+book : amount (deal loan (debt ∷ []) (backing ∷ [])) ≡ 411314
+unfolding amount
+book = refl
+
+-- one betterment, from a deal to the deal that is proposed
+record Case : Type 0 where
+  old : Deal
+  new : Deal
+  better : Better (viewOf old) (viewOf new)
+
+-- both are accepted, and the amount that reporting gives falls
+abbrev lowered : Case → Bool
+lowered x = accepted (x .old) && accepted (x .new) && ltb (amount (x .new)) (amount (x .old))
+
+-- of an item that stands first, and of one that stands behind another
+abbrev of-collateral : {c c′ : Collateral} → BetterCollateral 978 c c′ → List Case
+of-collateral {c} {c′} b =
+    record { old = deal loan (c ∷ []) []; new = deal loan (c′ ∷ []) []; better = Better.better-collateral (OneChanged.here b) }
+    ∷ record { old = deal loan (debt ∷ c ∷ []) []; new = deal loan (debt ∷ c′ ∷ []) []; better = Better.better-collateral (OneChanged.later (OneChanged.here b)) }
+    ∷ []
+
+abbrev of-guarantee : {g g′ : Guarantee} → BetterGuarantee 978 g g′ → List Case
+of-guarantee {g} {g′} b =
+    record { old = deal loan [] (g ∷ []); new = deal loan [] (g′ ∷ []); better = Better.better-guarantee (OneChanged.here b) }
+    ∷ record { old = deal loan [] (backing ∷ g ∷ []); new = deal loan [] (backing ∷ g′ ∷ []); better = Better.better-guarantee (OneChanged.later (OneChanged.here b)) }
+    ∷ []
+
+-- of the terms, with collateral that a shorter interval makes worth more
+abbrev of-terms : {t t′ : Terms} → BetterTerms t t′ → List Case
+of-terms {t} {t′} b = record { old = deal t (debt ∷ []) []; new = deal t′ (debt ∷ []) []; better = Better.better-terms b } ∷ []
+
+abbrev cases : List Case
+cases =
+    of-collateral (BetterCollateral.higher-amount {c = collateralAmount debt 100000} 400000 (omega arith))
+    ++ of-collateral (BetterCollateral.higher-residual {c = collateralResidual debt 900} 1800 (omega arith))
+    -- 25, "mismatch with original term under 360", no longer
+    ++ of-collateral (BetterCollateral.higher-original {c = collateralOriginal (collateralResidual debt 300) 359} 360 (omega arith))
+    ++ of-collateral (BetterCollateral.smaller-step {c = collateralStep debt 3} 1 (omega arith))
+    ++ of-collateral (BetterCollateral.deal-currency {c = collateralCurrency debt 840})
+    ++ of-collateral (BetterCollateral.now-lawful {c = collateralLawful debt 0} refl)
+    ++ of-collateral (BetterCollateral.now-unrelated {c = collateralUnrelated debt 0} refl)
+    ++ of-collateral (BetterCollateral.now-unreflected {c = collateralUnreflected debt 0} refl)
+    -- bank debt, unrated
+    ++ of-collateral (BetterCollateral.now-listed {c = pledge 4 0} refl)
+    ++ of-guarantee (BetterGuarantee.higher-amount {g = guaranteeAmount backing 100000} 200000 (omega arith))
+    ++ of-guarantee (BetterGuarantee.higher-residual {g = guaranteeResidual backing 900} 1800 (omega arith))
+    ++ of-guarantee (BetterGuarantee.higher-original {g = guaranteeOriginal (guaranteeResidual backing 300) 359} 360 (omega arith))
+    ++ of-guarantee (BetterGuarantee.smaller-step {g = guaranteeStep backing 3} 2 (omega arith))
+    ++ of-guarantee (BetterGuarantee.deal-currency {g = guaranteeCurrency backing 840})
+    ++ of-guarantee (BetterGuarantee.now-lawful {g = guaranteeLawful backing 0} refl)
+    ++ of-guarantee (BetterGuarantee.now-direct {g = guaranteeDirect backing 0} refl)
+    ++ of-guarantee (BetterGuarantee.now-unreflected {g = guaranteeUnreflected backing 0} refl)
+    -- sovereign debt lent under a repo
+    ++ of-terms (BetterTerms.smaller-lent-step {t = termsOf 1000000 3 0 978 1 1 1800 2 4 720} 1 (omega arith))
+    ++ of-terms (BetterTerms.smaller-interval {t = termsInterval loan 250} 1 (omega arith))
+    -- one more item, in front of another and behind it
+    ++ record { old = deal loan (debt ∷ []) []; new = deal loan (pledge 2 3 ∷ debt ∷ []) []; better = Better.more-collateral OneMore.here }
+    ∷ record { old = deal loan (debt ∷ []) []; new = deal loan (debt ∷ pledge 2 3 ∷ []) []; better = Better.more-collateral (OneMore.later OneMore.here) }
+    ∷ record { old = deal loan [] (backing ∷ []); new = deal loan [] (guaranteeStep backing 2 ∷ backing ∷ []); better = Better.more-guarantees OneMore.here }
+    ∷ record { old = deal loan [] (backing ∷ []); new = deal loan [] (backing ∷ guaranteeStep backing 2 ∷ []); better = Better.more-guarantees (OneMore.later OneMore.here) }
+    ∷ []
+
+-- EACH KIND OF BETTERMENT, AND EACH PLACE OF IT, CAN LOWER THE REPORTED AMOUNT
+each-lowers : all cases lowered ≡ true
+unfolding amount
+each-lowers = refl
+
+-- A list of betterments. The loan with sixteen pieces of the debt; a seventeenth is refused, and a residual term above the original;
+-- a higher amount and a guarantee are not
+abbrev piece : Collateral
+piece = collateralAmount debt 10000
+
+abbrev start : Deal
+start = deal loan (replicate 16 piece) []
+
+abbrev after : List Collateral
+after = collateralAmount debt 50000 ∷ replicate 15 piece
+
+abbrev seventeen : View
+seventeen = record { terms = loan; collateral = piece ∷ replicate 16 piece; guarantees = [] }
+
+abbrev overlong : View
+overlong = record { terms = loan; collateral = collateralResidual piece 1801 ∷ replicate 15 piece; guarantees = [] }
+
+start-accepted : accepted start ≡ true
+unfolding amount
+start-accepted = refl
+
+some-refused : Betterments start (deal loan after (backing ∷ []))
+unfolding amount acceptedView
+some-refused =
+    Betterments.refused seventeen (Better.more-collateral OneMore.here) refl
+    (Betterments.refused overlong (Better.better-collateral (OneChanged.here (BetterCollateral.higher-residual {c = piece} 1801 (omega arith)))) refl
+    (Betterments.made {d′ = deal loan after []} (Better.better-collateral (OneChanged.here (BetterCollateral.higher-amount {c = piece} 50000 (omega arith)))) refl
+    (Betterments.made {d′ = deal loan after (backing ∷ [])} (Better.more-guarantees OneMore.here) refl
+    Betterments.no-more)))
+
+-- before, after, and after without protection
+amounts : amount start ∷ amount (deal loan after (backing ∷ [])) ∷ amount (withoutProtection loan) ∷ [] ≡ 844528 ∷ 605660 ∷ 1000000 ∷ []
+unfolding amount
+amounts = refl
+
+-- as the rule says
+rule : (reportOf (deal loan after (backing ∷ [])) .weighted ≤ reportOf start .weighted)
+    × (reportOf (deal loan after (backing ∷ [])) .weighted ≤ reportOf (withoutProtection loan) .weighted)
+rule = betterments-never-raise start (deal loan after (backing ∷ [])) start-accepted some-refused

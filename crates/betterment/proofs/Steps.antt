@@ -1,0 +1,160 @@
+-- One betterment: nothing got worse, so the weighted amount is no higher. Assumes nothing.
+use Prim.Native.Nat.{ℕ, _≤_}
+use mathlib.Core.Path.{_≡_, refl}
+use mathlib.Core.Bool.{Bool, true}
+use mathlib.Core.List.{List, [], _∷_}
+use mathlib.Core.Logic.{inl, inr}
+use native.Mathlib.Omega.{arith}
+use borrow.Author.Tests.{eqb-true}
+use Rattle.base.specs.All.{all}
+use Rattle.base.proofs.Every.{both}
+use Rattle.tables.specs.Table.{Table, TableLaws}
+use Rattle.deal.proofs.Plain.{PlainTerms, PlainCollateral, PlainGuarantee, plain-terms, plain-collateral, plain-guarantee}
+use Rattle.deal.specs.declared.terms.Terms.{Terms}
+use Rattle.deal.specs.declared.collateral.Collateral.{Collateral}
+use Rattle.deal.specs.declared.guarantee.Guarantee.{Guarantee}
+use Rattle.relief.specs.Exposure.{weightedAmount}
+use Rattle.relief.proofs.NoWorse.{SameOrBetter, SameOrDeals, NoLowerCollateral, NoLowerGuarantee, NoWorseTerms, NoWorseCollateral, NoWorseGuarantee, NoLess, none, kept, more}
+use Rattle.relief.proofs.Amounts.{amount-no-higher}
+use Rattle.betterment.specs.Views.{View, acceptedView}
+use Rattle.betterment.specs.Betterments.{SmallerStep, BetterCollateral, BetterGuarantee, BetterTerms, OneChanged, OneMore, Better}
+use Rattle.betterment.proofs.Views.{FitsView, view-fits, collateralFits, guaranteeFits}
+
+-- a smaller step is a better one
+smaller : {old new : ℕ} → SmallerStep old new → SameOrBetter old new
+smaller s = inr (s .0, (omega arith, s .1 .1))
+
+-- Terms
+
+same-terms : {t : Terms} → PlainTerms t → NoWorseTerms t t
+same-terms p = record { plain = p; fields = omega arith; lentStep = inl refl }
+
+changed-terms : {t t′ : Terms} → PlainTerms t → BetterTerms t t′ → NoWorseTerms t t′
+changed-terms p (BetterTerms.smaller-lent-step new s) = record { plain = p; fields = omega arith; lentStep = smaller s }
+changed-terms p (BetterTerms.smaller-interval new h) = record { plain = p; fields = omega arith; lentStep = inl refl }
+
+-- Items under a deal in this currency
+
+module _ {currency : ℕ} where
+  no-worse-collateral : {c c′ : Collateral} → PlainCollateral c → PlainCollateral c′ → NoLowerCollateral c c′ → SameOrBetter (c .asset .step) (c′ .asset .step) →
+      SameOrDeals currency (c .currency) (c′ .currency) → NoWorseCollateral currency c c′
+  no-worse-collateral p p′ f s m = record { before = p; after = p′; fields = f; step = s; currency = m }
+
+  same-collateral : {c : Collateral} → PlainCollateral c → NoWorseCollateral currency c c
+  same-collateral p = no-worse-collateral p p (omega arith) (inl refl) (inl refl)
+
+  changed-collateral : {c c′ : Collateral} → BetterCollateral currency c c′ → PlainCollateral c → PlainCollateral c′ → NoWorseCollateral currency c c′
+  changed-collateral (BetterCollateral.higher-amount new h) p p′ = no-worse-collateral p p′ (omega arith) (inl refl) (inl refl)
+  changed-collateral (BetterCollateral.higher-residual new h) p p′ = no-worse-collateral p p′ (omega arith) (inl refl) (inl refl)
+  changed-collateral (BetterCollateral.higher-original new h) p p′ = no-worse-collateral p p′ (omega arith) (inl refl) (inl refl)
+  changed-collateral (BetterCollateral.smaller-step new s) p p′ = no-worse-collateral p p′ (omega arith) (smaller s) (inl refl)
+  changed-collateral BetterCollateral.deal-currency p p′ = no-worse-collateral p p′ (omega arith) (inl refl) (inr refl)
+  changed-collateral (BetterCollateral.now-lawful e) p p′ = no-worse-collateral p p′ (omega arith) (inl refl) (inl refl)
+  changed-collateral (BetterCollateral.now-unrelated e) p p′ = no-worse-collateral p p′ (omega arith) (inl refl) (inl refl)
+  changed-collateral (BetterCollateral.now-unreflected e) p p′ = no-worse-collateral p p′ (omega arith) (inl refl) (inl refl)
+  changed-collateral (BetterCollateral.now-listed e) p p′ = no-worse-collateral p p′ (omega arith) (inl refl) (inl refl)
+
+  no-worse-guarantee : {g g′ : Guarantee} → PlainGuarantee g → PlainGuarantee g′ → NoLowerGuarantee g g′ → SameOrBetter (g .provider .step) (g′ .provider .step) →
+      SameOrDeals currency (g .currency) (g′ .currency) → NoWorseGuarantee currency g g′
+  no-worse-guarantee p p′ f s m = record { before = p; after = p′; fields = f; step = s; currency = m }
+
+  same-guarantee : {g : Guarantee} → PlainGuarantee g → NoWorseGuarantee currency g g
+  same-guarantee p = no-worse-guarantee p p (omega arith) (inl refl) (inl refl)
+
+  changed-guarantee : {g g′ : Guarantee} → BetterGuarantee currency g g′ → PlainGuarantee g → PlainGuarantee g′ → NoWorseGuarantee currency g g′
+  changed-guarantee (BetterGuarantee.higher-amount new h) p p′ = no-worse-guarantee p p′ (omega arith) (inl refl) (inl refl)
+  changed-guarantee (BetterGuarantee.higher-residual new h) p p′ = no-worse-guarantee p p′ (omega arith) (inl refl) (inl refl)
+  changed-guarantee (BetterGuarantee.higher-original new h) p p′ = no-worse-guarantee p p′ (omega arith) (inl refl) (inl refl)
+  changed-guarantee (BetterGuarantee.smaller-step new s) p p′ = no-worse-guarantee p p′ (omega arith) (smaller s) (inl refl)
+  changed-guarantee BetterGuarantee.deal-currency p p′ = no-worse-guarantee p p′ (omega arith) (inl refl) (inr refl)
+  changed-guarantee (BetterGuarantee.now-lawful e) p p′ = no-worse-guarantee p p′ (omega arith) (inl refl) (inl refl)
+  changed-guarantee (BetterGuarantee.now-direct e) p p′ = no-worse-guarantee p p′ (omega arith) (inl refl) (inl refl)
+  changed-guarantee (BetterGuarantee.now-unreflected e) p p′ = no-worse-guarantee p p′ (omega arith) (inl refl) (inl refl)
+
+-- Lists of items that pass a test
+
+module _ {A : Type 0} (fits : A → Bool) (NoWorse : A → A → Type 0) (same : (x : A) → fits x ≡ true → NoWorse x x) where
+  unchanged : (xs : List A) → all xs fits ≡ true → NoLess NoWorse xs xs
+  unchanged [] e = none
+  unchanged (x ∷ xs) e = let b = both (fits x) (all xs fits) e in kept (same x (b .0)) (unchanged xs (b .1))
+
+  one-more : {xs ys : List A} → OneMore xs ys → all ys fits ≡ true → NoLess NoWorse xs ys
+  one-more (OneMore.here {item = y} {items = ys}) e = more (unchanged ys (both (fits y) (all ys fits) e .1))
+  one-more (OneMore.later {item = y} {new = ys} o) e = let b = both (fits y) (all ys fits) e in kept (same y (b .0)) (one-more o (b .1))
+
+  module _ (Change : A → A → Type 0) (better : (x y : A) → Change x y → fits x ≡ true → fits y ≡ true → NoWorse x y) where
+    one-changed : {xs ys : List A} → OneChanged Change xs ys → all xs fits ≡ true → all ys fits ≡ true → NoLess NoWorse xs ys
+    one-changed (OneChanged.here {old = x} {new = y} {items = zs} c) e e′ =
+        let b = both (fits x) (all zs fits) e in
+        let b′ = both (fits y) (all zs fits) e′ in
+        kept (better x y c (b .0) (b′ .0)) (unchanged zs (b .1))
+    one-changed (OneChanged.later {item = z} {old = xs} {new = ys} o) e e′ =
+        let b = both (fits z) (all xs fits) e in
+        let b′ = both (fits z) (all ys fits) e′ in
+        kept (same z (b .0)) (one-changed o (b .1) (b′ .1))
+
+-- The deal
+
+collateral-plain : (c : Collateral) → collateralFits c ≡ true → PlainCollateral c
+collateral-plain c e = plain-collateral c (eqb-true _ 0 e)
+
+guarantee-plain : (g : Guarantee) → guaranteeFits g ≡ true → PlainGuarantee g
+guarantee-plain g e = plain-guarantee g (eqb-true _ 0 e)
+
+-- its two lists, the same, one item longer, or with one item changed
+module _ (currency : ℕ) where
+  kept-collateral : (c : Collateral) → collateralFits c ≡ true → NoWorseCollateral currency c c
+  kept-collateral c e = same-collateral (collateral-plain c e)
+
+  kept-guarantee : (g : Guarantee) → guaranteeFits g ≡ true → NoWorseGuarantee currency g g
+  kept-guarantee g e = same-guarantee (guarantee-plain g e)
+
+  collateral-kept : (cs : List Collateral) → all cs collateralFits ≡ true → NoLess (NoWorseCollateral currency) cs cs
+  collateral-kept = unchanged collateralFits (NoWorseCollateral currency) kept-collateral
+
+  guarantees-kept : (gs : List Guarantee) → all gs guaranteeFits ≡ true → NoLess (NoWorseGuarantee currency) gs gs
+  guarantees-kept = unchanged guaranteeFits (NoWorseGuarantee currency) kept-guarantee
+
+  collateral-longer : {cs cs′ : List Collateral} → OneMore cs cs′ → all cs′ collateralFits ≡ true → NoLess (NoWorseCollateral currency) cs cs′
+  collateral-longer = one-more collateralFits (NoWorseCollateral currency) kept-collateral
+
+  guarantees-longer : {gs gs′ : List Guarantee} → OneMore gs gs′ → all gs′ guaranteeFits ≡ true → NoLess (NoWorseGuarantee currency) gs gs′
+  guarantees-longer = one-more guaranteeFits (NoWorseGuarantee currency) kept-guarantee
+
+  collateral-changed : {cs cs′ : List Collateral} → OneChanged (BetterCollateral currency) cs cs′ → all cs collateralFits ≡ true → all cs′ collateralFits ≡ true →
+      NoLess (NoWorseCollateral currency) cs cs′
+  collateral-changed =
+      one-changed collateralFits (NoWorseCollateral currency) kept-collateral (BetterCollateral currency)
+      (λ c c′ b e e′. changed-collateral b (collateral-plain c e) (collateral-plain c′ e′))
+
+  guarantees-changed : {gs gs′ : List Guarantee} → OneChanged (BetterGuarantee currency) gs gs′ → all gs guaranteeFits ≡ true → all gs′ guaranteeFits ≡ true →
+      NoLess (NoWorseGuarantee currency) gs gs′
+  guarantees-changed =
+      one-changed guaranteeFits (NoWorseGuarantee currency) kept-guarantee (BetterGuarantee currency)
+      (λ g g′ b e e′. changed-guarantee b (guarantee-plain g e) (guarantee-plain g′ e′))
+
+-- the weighted amount of a view under a table
+abbrev pub amountOf : Table → View → ℕ
+amountOf table v = weightedAmount table (v .terms) (v .collateral) (v .guarantees)
+
+module _ {table : Table} (laws : TableLaws table) where
+  lowers : (v v′ : View) → Better v v′ → FitsView v → FitsView v′ → amountOf table v′ ≤ amountOf table v
+  lowers v v′ (Better.better-terms {t = t} {cs = cs} {gs = gs} b) f f′ =
+      amount-no-higher laws (changed-terms (plain-terms t (f .terms)) b)
+      (collateral-kept (t .currency) cs (f .collateral)) (guarantees-kept (t .currency) gs (f .guarantees))
+  lowers v v′ (Better.better-collateral {t = t} {gs = gs} b) f f′ =
+      amount-no-higher laws (same-terms (plain-terms t (f .terms)))
+      (collateral-changed (t .currency) b (f .collateral) (f′ .collateral)) (guarantees-kept (t .currency) gs (f .guarantees))
+  lowers v v′ (Better.more-collateral {t = t} {gs = gs} b) f f′ =
+      amount-no-higher laws (same-terms (plain-terms t (f .terms)))
+      (collateral-longer (t .currency) b (f′ .collateral)) (guarantees-kept (t .currency) gs (f .guarantees))
+  lowers v v′ (Better.better-guarantee {t = t} {cs = cs} b) f f′ =
+      amount-no-higher laws (same-terms (plain-terms t (f .terms)))
+      (collateral-kept (t .currency) cs (f .collateral)) (guarantees-changed (t .currency) b (f .guarantees) (f′ .guarantees))
+  lowers v v′ (Better.more-guarantees {t = t} {cs = cs} b) f f′ =
+      amount-no-higher laws (same-terms (plain-terms t (f .terms)))
+      (collateral-kept (t .currency) cs (f .collateral)) (guarantees-longer (t .currency) b (f′ .guarantees))
+
+  -- ONE BETTERMENT NEVER RAISES THE WEIGHTED AMOUNT
+  pub better-lowers : (v v′ : View) → Better v v′ → acceptedView v ≡ true → acceptedView v′ ≡ true → amountOf table v′ ≤ amountOf table v
+  better-lowers v v′ b e e′ = lowers v v′ b (view-fits v e) (view-fits v′ e′)

@@ -1,0 +1,3 @@
+pub mod Betterments
+pub mod Changes
+pub mod Views

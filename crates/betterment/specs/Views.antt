@@ -1,0 +1,39 @@
+-- A deal by its fields and items. 01: Betterments, "Its items are the counted ones in order of adding; unchanged is said of its fields
+-- and items, not of how a record holds them"
+use mathlib.Core.Bool.{Bool, _&&_}
+use mathlib.Core.List.{List}
+use lib.Dec.{leb, eqb}
+use lib.ListN.{length}
+use Rattle.base.specs.All.{all}
+use Rattle.base.specs.Places.{inPlaces}
+use Rattle.deal.specs.Terms.{termsRefusal}
+use Rattle.deal.specs.Items.{collateralRefusal, guaranteeRefusal, listLimit, countedCollateral, countedGuarantees}
+use Rattle.deal.specs.Deals.{zeroCollateral, zeroGuarantee}
+use Rattle.deal.specs.declared.terms.Terms.{Terms}
+use Rattle.deal.specs.declared.collateral.Collateral.{Collateral}
+use Rattle.deal.specs.declared.guarantee.Guarantee.{Guarantee}
+use Rattle.deal.specs.declared.deal.Deal.{Deal}
+
+pub record View : Type 0 where
+  pub terms : Terms
+  pub collateral : List Collateral
+  pub guarantees : List Guarantee
+
+abbrev pub viewOf : Deal → View
+viewOf d = record { terms = d .terms; collateral = countedCollateral (d .collateral); guarantees = countedGuarantees (d .guarantees) }
+
+-- whether reporting would take such a deal: every field one that opening or adding takes, at most sixteen items in each list. Of a
+-- record whose counts are within its places it says what `accepted` says (`accepted-view`, `view-accepted`)
+unfoldable pub acceptedView : View → Bool
+acceptedView v =
+    eqb (termsRefusal (v .terms)) 0
+    && (leb (length (v .collateral)) listLimit && all (v .collateral) (λ c. eqb (collateralRefusal c) 0))
+    && (leb (length (v .guarantees)) listLimit && all (v .guarantees) (λ g. eqb (guaranteeRefusal g) 0))
+
+-- a record that holds these fields and at most sixteen items in each list, one of many
+abbrev pub recordOf : View → Deal
+recordOf v = record {
+  terms = v .terms;
+  collateral = record { items = inPlaces listLimit zeroCollateral (v .collateral); count = length (v .collateral) };
+  guarantees = record { items = inPlaces listLimit zeroGuarantee (v .guarantees); count = length (v .guarantees) };
+}

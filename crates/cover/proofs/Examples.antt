@@ -1,0 +1,40 @@
+-- Worked examples, computed from the definitions. Assumes nothing.
+use Prim.Native.Nat.{ℕ, _+_, _*_}
+use mathlib.Core.Path.{_≡_, refl}
+use mathlib.Core.List.{List, [], _∷_}
+use Rattle.base.specs.Choice.{if_then_else_}
+use Rattle.base.specs.Sum.{sumOf}
+use Rattle.cover.specs.Cover.{lighter, equal, before, portion, coveredAfter, covered, portions, rest, weightedSum}
+use Rattle.cover.specs.declared.protection.Protection.{Protection}
+
+infix 80 _at_
+abbrev _at_ : ℕ → ℕ → Protection
+v at w = record { value = v; weight = w }
+
+-- the later piece is lighter, and covers first
+abbrev later-lighter : List Protection
+later-lighter = 80 at 20 ∷ 60 at 0 ∷ []
+
+later-lighter-portions : portions 100 later-lighter ≡ 40 ∷ 60 ∷ []
+unfolding covered coveredAfter portion before lighter equal sumOf if_then_else_
+later-lighter-portions = refl
+
+later-lighter-rest : rest 100 later-lighter ≡ 0
+unfolding rest sumOf
+later-lighter-rest = refl
+
+later-lighter-sum : weightedSum 100 100 later-lighter ≡ 800
+unfolding weightedSum covered coveredAfter portion before rest lighter equal sumOf if_then_else_
+later-lighter-sum = refl
+
+-- equal weights: the earlier piece covers first, and the rest bears the counterparty's weight
+abbrev two-equal : List Protection
+two-equal = 30 at 50 ∷ 10 at 20 ∷ 80 at 50 ∷ []
+
+two-equal-portions : portions 100 two-equal ≡ 30 ∷ 10 ∷ 60 ∷ []
+unfolding covered coveredAfter portion before lighter equal sumOf if_then_else_
+two-equal-portions = refl
+
+two-equal-sum : weightedSum 150 130 two-equal ≡ 30 * 50 + 10 * 20 + 80 * 50 + 10 * 150
+unfolding weightedSum covered coveredAfter portion before rest lighter equal sumOf if_then_else_
+two-equal-sum = refl

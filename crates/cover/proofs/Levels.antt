@@ -1,0 +1,81 @@
+-- What weighs less than w, what weighs w, and how the two add up from weight to weight. Assumes nothing.
+use Prim.Native.Nat.{ℕ, suc, _+_, _≤_, _<_, max}
+use mathlib.Core.Path.{_≡_, refl}
+use mathlib.Core.List.{List, [], _∷_, _++_}
+use mathlib.Core.Logic.{_⊎_, inl, inr, ⊎-elim, _≢_}
+use native.Mathlib.Nat.{lt-of-not-le}
+use native.Mathlib.Decide.{decLe, ℕ-discrete}
+use native.Mathlib.Omega.{arith}
+use borrow.Author.Tests.{lt-ltb, le-ltb, eq-eqb, ne-eqb}
+use Rattle.base.specs.Choice.{if_then_else_}
+use Rattle.base.specs.Sum.{sumOf}
+use Rattle.base.proofs.Sum.{sum-append}
+use Rattle.cover.specs.Cover.{lighter, equal, before}
+use Rattle.cover.specs.declared.protection.Protection.{Protection}
+
+pub side : (a b : ℕ) → (a < b) ⊎ (b ≤ a)
+side a b = go (decLe b a)
+  where
+    go : Dec (b ≤ a) → (a < b) ⊎ (b ≤ a)
+    go (yes h) = inr h
+    go (no h) = inl (lt-of-not-le h)
+
+module _ (w : ℕ) (p : Protection) where
+  pub lighter-in : p .weight < w → lighter w p ≡ p .value
+  unfolding lighter if_then_else_
+  lighter-in h = rw (lt-ltb (p .weight) w h)
+
+  pub lighter-out : w ≤ p .weight → lighter w p ≡ 0
+  unfolding lighter if_then_else_
+  lighter-out h = rw (le-ltb (p .weight) w h)
+
+  pub lighter-le : lighter w p ≤ p .value
+  lighter-le = ⊎-elim (λ h. omega (arith, lighter-in h)) (λ h. omega (arith, lighter-out h)) (side (p .weight) w)
+
+  pub equal-in : p .weight ≡ w → equal w p ≡ p .value
+  unfolding equal if_then_else_
+  equal-in h = rw (eq-eqb (p .weight) w h)
+
+  pub equal-out : p .weight ≢ w → equal w p ≡ 0
+  unfolding equal if_then_else_
+  equal-out h = rw (ne-eqb (p .weight) w h)
+
+-- what weighs at most w weighs less, or as much
+pub lighter-next : (w : ℕ) (p : Protection) → lighter (suc w) p ≡ lighter w p + equal w p
+lighter-next w p = go (ℕ-discrete (p .weight) w)
+  where
+    go : Dec (p .weight ≡ w) → lighter (suc w) p ≡ lighter w p + equal w p
+    go (yes e) = omega (arith, equal-in w p e, lighter-in (suc w) p (omega arith), lighter-out w p (omega arith))
+    go (no n) =
+        ⊎-elim (λ h. omega (arith, equal-out w p n, lighter-in (suc w) p (omega arith), lighter-in w p h))
+        (λ h. omega (arith, equal-out w p n, lighter-out (suc w) p (omega arith), lighter-out w p h)) (side (p .weight) w)
+
+pub level-next : (w : ℕ) (ps : List Protection) → sumOf (lighter (suc w)) ps ≡ sumOf (lighter w) ps + sumOf (equal w) ps
+unfolding sumOf
+level-next w [] = refl
+level-next w (p ∷ ps) = omega (arith, level-next w ps, lighter-next w p)
+
+pub level-zero : (ps : List Protection) → sumOf (lighter 0) ps ≡ 0
+unfolding sumOf
+level-zero [] = refl
+level-zero (p ∷ ps) = omega (arith, level-zero ps, lighter-out 0 p (omega arith))
+
+-- above the heaviest piece everything counts
+unfoldable pub top : List Protection → ℕ
+top [] = 0
+top (p ∷ ps) = max (suc (p .weight)) (top ps)
+
+pub level-top : (w : ℕ) (ps : List Protection) → top ps ≤ w → sumOf (lighter w) ps ≡ sumOf (λ p. p .value) ps
+unfolding sumOf top
+level-top w [] h = refl
+level-top w (p ∷ ps) h = omega (arith, level-top w ps (omega arith), lighter-in w p (omega arith))
+
+-- before the first piece of a weight stand the lighter ones
+pub before-none : (w : ℕ) (all : List Protection) → before w all [] ≡ sumOf (lighter w) all
+unfolding before sumOf
+before-none w all = omega arith
+
+-- one piece more was added earlier
+pub before-next : (w : ℕ) (all earlier : List Protection) (p : Protection) → before w all (earlier ++ p ∷ []) ≡ before w all earlier + equal w p
+unfolding before sumOf
+before-next w all earlier p = omega (arith, sum-append (equal w) earlier (p ∷ []))

@@ -1,0 +1,4 @@
+pub mod Cover
+pub mod Layers
+pub mod Limits
+pub mod Sorted

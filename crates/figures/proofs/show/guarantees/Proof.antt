@@ -1,0 +1,102 @@
+-- `figures::show::guarantees` meets its contract. Assumes nothing.
+use Prim.Native.Nat.{_-_, _≤_}
+use Rattle.base.proofs.Tests.{tests}
+use Rattle.figures.proofs.show.guarantees.Statement.{statement}
+use Rattle.figures.proofs.show.guarantees.Tie as tie
+
+abbrev Inv-loop : tie.InvT-loop
+Inv-loop count reports past₀ i₀ t10 t11 past i = i ≤ 16
+
+abbrev μ-loop : tie.MeasureT-loop
+μ-loop count reports past₀ i₀ t10 t11 past i = 16 - i
+
+slice-aggregate-text : tie.Need-slice-aggregate-text Inv-loop μ-loop
+slice-aggregate-text c = search tests
+
+text-requires : tie.Need-text-requires Inv-loop μ-loop
+text-requires c κs = tt
+
+loop-holds : tie.Need-loop-holds Inv-loop μ-loop
+loop-holds c = search tests
+
+mul-report : tie.Need-mul-report Inv-loop μ-loop
+mul-report c = search tests
+
+array-copy-out-report : tie.Need-array-copy-out-report Inv-loop μ-loop
+array-copy-out-report c = search tests
+
+outcome-requires : tie.Need-outcome-requires Inv-loop μ-loop
+outcome-requires c κs = tt
+
+slice-aggregate-text-2 : tie.Need-slice-aggregate-text-2 Inv-loop μ-loop
+slice-aggregate-text-2 c = search tests
+
+text-requires-2 : tie.Need-text-requires-2 Inv-loop μ-loop
+text-requires-2 c κs = search tests
+
+number-requires : tie.Need-number-requires Inv-loop μ-loop
+number-requires c κs = tt
+
+value-requires : tie.Need-value-requires Inv-loop μ-loop
+value-requires c κs = tt
+
+ground-number-requires : tie.Need-ground-number-requires Inv-loop μ-loop
+ground-number-requires c κs = tt
+
+add-figures : tie.Need-add-figures Inv-loop μ-loop
+add-figures c = search tests
+
+add-past : tie.Need-add-past Inv-loop μ-loop
+add-past c = search tests
+
+add-past-2 : tie.Need-add-past-2 Inv-loop μ-loop
+add-past-2 c = search tests
+
+add-i : tie.Need-add-i Inv-loop μ-loop
+add-i c = search tests
+
+loop-less : tie.Need-loop-less Inv-loop μ-loop
+loop-less c = search tests
+
+loop-again : tie.Need-loop-again Inv-loop μ-loop
+loop-again c = search tests
+
+slice-aggregate-text-3 : tie.Need-slice-aggregate-text-3 Inv-loop μ-loop
+slice-aggregate-text-3 c = search tests
+
+text-requires-3 : tie.Need-text-requires-3 Inv-loop μ-loop
+text-requires-3 c κs = search tests
+
+number-requires-2 : tie.Need-number-requires-2 Inv-loop μ-loop
+number-requires-2 c κs = search tests
+
+returns : tie.Need-returns Inv-loop μ-loop
+returns c = search tests
+
+pub guarantees-spec : {M : Type 1} → statement M
+guarantees-spec =
+    tie.close
+    (tie.spec
+    Inv-loop
+    μ-loop
+    slice-aggregate-text
+    text-requires
+    loop-holds
+    mul-report
+    array-copy-out-report
+    outcome-requires
+    slice-aggregate-text-2
+    text-requires-2
+    number-requires
+    value-requires
+    ground-number-requires
+    add-figures
+    add-past
+    add-past-2
+    add-i
+    loop-less
+    loop-again
+    slice-aggregate-text-3
+    text-requires-3
+    number-requires-2
+    returns)

@@ -1,0 +1,33 @@
+-- A report worked out by the checker: `unfolding computed` opens every definition that a report comes from. Assumes nothing.
+use mathlib.Core.List.{zipWith}
+use Rattle.base.specs.Choice.{if_then_else_}
+use Rattle.base.specs.FirstMet.{firstOr}
+use Rattle.base.specs.Least.{least, between}
+use Rattle.base.specs.Range.{within}
+use Rattle.base.specs.Rounding.{roundUp}
+use Rattle.base.specs.Sum.{sumOf}
+use Rattle.tables.specs.Eligibility.{eligible, bankDebtEligible, equityOrGold}
+use Rattle.tables.specs.Haircuts.{rowOf, bandOf, columnOf as issuerColumn, debtHaircut, haircut, lentHaircut}
+use Rattle.tables.specs.Weights.{columnOf, tableWeight, counterpartyWeight, providerWeight}
+use Rattle.scaling.specs.Period.{minimumPeriod, holdingPeriod, guaranteePeriod}
+use Rattle.scaling.specs.Scaling.{scaled}
+use Rattle.valuation.specs.Haircuts.{currencyCut, collateralCut}
+use Rattle.valuation.specs.Protection.{keepShare, reduced, mismatched, adjusted, recognised}
+use Rattle.valuation.specs.Exposure.{raised, weighted}
+use Rattle.cover.specs.Cover.{lighter, equal, before, portion, coveredAfter, covered, rest, weightedSum}
+use Rattle.deal.specs.Parties.{partyStepAllowed}
+use Rattle.deal.specs.Assets.{assetStepAllowed, lifeAllowed}
+use Rattle.deal.specs.Terms.{termsTests, termsRefusal}
+use Rattle.deal.specs.Items.{collateralTests, collateralRefusal, guaranteeTests, guaranteeRefusal, collateralListAllowed, guaranteeListAllowed}
+use Rattle.deal.specs.Deals.{accepted}
+use Rattle.deal.specs.declared.deal.Deal.{Deal}
+use Rattle.relief.specs.declared.report.Report.{Report}
+use Rattle.relief.specs.Grounds.{groundNumber}
+use Rattle.relief.specs.Outcomes.{outcomeValue, outcomeGround}
+use Rattle.relief.specs.Recognition.{shortOriginal, shortResidual, cutOf, collateralValue, collateralGrounds, collateralOutcome, guaranteeValue, guaranteeGrounds, guaranteeOutcome}
+use Rattle.relief.specs.Exposure.{lentCut, raisedExposure, collateralTotal, exposureAfter, weightedAmount}
+use Rattle.relief.specs.Report.{fullReport, reportUnder, reportOf}
+
+unfoldable pub computed : Deal → Report
+unfolding accepted collateralListAllowed guaranteeListAllowed termsRefusal termsTests collateralRefusal collateralTests guaranteeRefusal guaranteeTests firstOr within partyStepAllowed assetStepAllowed lifeAllowed if_then_else_ least between roundUp sumOf zipWith eligible bankDebtEligible equityOrGold rowOf bandOf issuerColumn debtHaircut haircut lentHaircut columnOf tableWeight counterpartyWeight providerWeight minimumPeriod holdingPeriod guaranteePeriod scaled currencyCut collateralCut keepShare reduced mismatched adjusted recognised raised weighted lighter equal before portion coveredAfter covered rest weightedSum groundNumber outcomeValue outcomeGround shortOriginal shortResidual cutOf collateralValue collateralGrounds collateralOutcome guaranteeValue guaranteeGrounds guaranteeOutcome lentCut raisedExposure collateralTotal exposureAfter weightedAmount fullReport reportUnder
+computed d = reportOf d

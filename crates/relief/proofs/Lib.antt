@@ -1,0 +1,10 @@
+pub mod Amounts
+pub mod Assembly
+pub mod Computed
+pub mod Grounds
+pub mod NoWorse
+pub mod Outcomes
+pub mod Recognition
+pub mod Reports
+pub mod Unmet
+pub mod ValueBounds

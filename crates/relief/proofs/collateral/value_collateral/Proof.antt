@@ -1,0 +1,142 @@
+-- `relief::collateral::value_collateral` meets its contract: after i items the first i places are filled, and the total is theirs. Assumes nothing.
+use Prim.Native.Nat.{ℕ, _+_, _*_, _-_, _≤_, _<_}
+use mathlib.Core.Path.{_≡_, refl, sym, _∙_}
+use mathlib.Core.List.{List, map, _++_}
+use native.Mathlib.Nat.{le-trans}
+use native.Mathlib.Omega.{arith}
+use lib.ListN.{length, take, drop, replicate, length-map}
+use lib.Seq.{length-take-le}
+use Rattle.base.specs.Sum.{sumOf}
+use Rattle.base.proofs.Arrays.{unmapped}
+use Rattle.base.proofs.Places.{fill-more, placed}
+use Rattle.base.proofs.Sum.{sum-take}
+use Rattle.tables.specs.Table.{table2019}
+use Rattle.scaling.specs.Shared.{Right}
+use Rattle.scaling.specs.declared.shared.ScaledHaircuts.{ScaledHaircuts}
+use Rattle.deal.specs.declared.terms.Terms.{Terms}
+use Rattle.deal.specs.declared.collateral.Collateral.{Collateral}
+use Rattle.deal.specs.Deals.{zeroCollateral}
+use Rattle.deal.proofs.Plain.{collateral-count, collateral-at}
+use Rattle.relief.specs.declared.collateral.CollateralReport.{CollateralReport}
+use Rattle.relief.specs.Outcomes.{outcomeValue}
+use Rattle.relief.specs.Recognition.{collateralOutcome}
+use Rattle.relief.specs.Exposure.{collateralTotal}
+use Rattle.relief.specs.Report.{noCollateral}
+use Rattle.relief.proofs.ValueBounds.{collateral-le}
+use Rattle.relief.proofs.collateral.value_collateral.Statement.{statement}
+use Rattle.relief.proofs.collateral.value_collateral.Tie as tie
+
+abbrev entry : Terms → Collateral → CollateralReport
+entry t c = record { outcome = collateralOutcome table2019 t c }
+
+record Holds (t : Terms) (items : List Collateral) (count period : ℕ) (reports : List CollateralReport) (total : ℕ) (known : ScaledHaircuts) (i : ℕ) : Type 0 where
+  passed : i ≤ count
+  held : count ≤ 16
+  reported : reports ≡ map (entry t) (take i items) ++ drop i (replicate 16 noCollateral)
+  totalled : total ≡ collateralTotal table2019 t (take i items)
+  small : total ≤ i * 1000000000000
+  same : known .period ≡ period
+  right : Right known
+
+abbrev Inv-loop : tie.InvT-loop
+Inv-loop terms items count reports₀ total₀ known₀ i₀ reports total known i = Holds terms items count (known₀ .period) reports total known i
+
+abbrev μ-loop : tie.MeasureT-loop
+μ-loop terms items count reports₀ total₀ known₀ i₀ reports total known i = count - i
+
+long : (c : tie.Start Inv-loop μ-loop) → length (c .args .list .items) ≡ 16
+long c = search (unmapped, c .good)
+
+loop-holds : tie.Need-loop-holds Inv-loop μ-loop
+unfolding collateralTotal sumOf
+loop-holds c =
+    let s = c .before in
+    record { passed = omega arith; held = collateral-count (s .args .list) (s .pre .0); reported = refl; totalled = refl; small = omega arith; same = refl; right = s .pre .1 .1 }
+
+mul-item : tie.Need-mul-item Inv-loop μ-loop
+mul-item c = omega arith
+
+array-copy-out-item : tie.Need-array-copy-out-item Inv-loop μ-loop
+array-copy-out-item c = omega arith
+
+value-item-requires : tie.Need-value-item-requires Inv-loop μ-loop
+value-item-requires c κs =
+    let l = c .before .before in
+    let s = l .before .before in
+    let item = collateral-at (s .args .list) (s .pre .0) (l .loop .i) zeroCollateral (c .before .loop-test .taken) (omega (arith, long s)) in
+    (item .amount, (l .loop .inv .same ∙ s .pre .1 .0, l .loop .inv .right))
+
+mul-reports : tie.Need-mul-reports Inv-loop μ-loop
+mul-reports c = omega arith
+
+array-set-from-reports : tie.Need-array-set-from-reports Inv-loop μ-loop
+array-set-from-reports c = omega arith
+
+value-requires : tie.Need-value-requires Inv-loop μ-loop
+value-requires c κs = tt
+
+-- the item just valued is worth at most the limit of an amount
+worth : (c : tie.After-value Inv-loop μ-loop) → c .value .result ≤ 1000000000000
+worth c =
+    let l = c .before .before .before .before in
+    let s = l .before .before in
+    let item = collateral-at (s .args .list) (s .pre .0) (l .loop .i) zeroCollateral (c .before .before .before .loop-test .taken) (omega (arith, long s)) in
+    rw (c .value .ensures, c .before .value-item .ensures .0) (le-trans (collateral-le table2019 (s .args .terms) _) (item .amount))
+
+add-total : tie.Need-add-total Inv-loop μ-loop
+add-total c = omega (arith, worth c, c .before .before .before .before .loop .inv .small)
+
+add-i : tie.Need-add-i Inv-loop μ-loop
+add-i c = omega arith
+
+loop-less : tie.Need-loop-less Inv-loop μ-loop
+loop-less c = omega arith
+
+loop-again : tie.Need-loop-again Inv-loop μ-loop
+unfolding collateralTotal
+loop-again c =
+    let v = c .before .before in
+    let l = v .before .before .before in
+    let s = l .before .before in
+    let items = s .args .list .items in
+    let i = l .loop .i in
+    let h : i < length items = omega (arith, long s) in
+    record {
+      passed = omega arith;
+      held = l .loop .inv .held;
+      reported = rw (l .loop .inv .reported, v .value-item .ensures .0) (fill-more (entry (s .args .terms)) zeroCollateral i items _ h (omega arith));
+      totalled = rw (c .before .value .ensures, v .value-item .ensures .0, l .loop .inv .totalled) (sym (sum-take (λ x. outcomeValue (collateralOutcome table2019 (s .args .terms) x)) items i zeroCollateral h));
+      small = omega (arith, worth (c .before), l .loop .inv .small);
+      same = v .value-item .ensures .1 .0 ∙ l .loop .inv .same;
+      right = v .value-item .ensures .1 .1;
+    }
+
+returns : tie.Need-returns Inv-loop μ-loop
+returns c =
+    let l = c .before .loop in
+    let s = c .before .before .before in
+    let items = s .args .list .items in
+    let count = s .args .list .count in
+    let e : l .i ≡ count = omega arith in
+    let ys = map (entry (s .args .terms)) (take count items) in
+    let n : length ys ≡ count = length-map (take count items) (entry (s .args .terms)) ∙ length-take-le count items (omega (arith, long s, l .inv .held)) in
+    (rw (l .inv .reported, e) (placed 16 count noCollateral ys n), (rw (l .inv .totalled, e), (l .inv .same, l .inv .right)))
+
+pub value-collateral-spec : {M : Type 1} → statement M
+value-collateral-spec =
+    tie.close
+    (tie.spec
+    Inv-loop
+    μ-loop
+    loop-holds
+    mul-item
+    array-copy-out-item
+    value-item-requires
+    mul-reports
+    array-set-from-reports
+    value-requires
+    add-total
+    add-i
+    loop-less
+    loop-again
+    returns)

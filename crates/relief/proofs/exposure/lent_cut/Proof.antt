@@ -1,0 +1,24 @@
+-- `relief::exposure::lent_cut` meets its contract. Assumes nothing.
+use native.Mathlib.Omega.{arith}
+use Rattle.tables.proofs.Bounds.{lent-bound}
+use Rattle.relief.specs.Exposure.{lentCut}
+use Rattle.relief.proofs.exposure.lent_cut.Statement.{statement}
+use Rattle.relief.proofs.exposure.lent_cut.Tie as tie
+
+lent-haircut-requires : tie.Need-lent-haircut-requires
+lent-haircut-requires c κs = tt
+
+scale-requires : tie.Need-scale-requires
+scale-requires c κs =
+    let s = c .before .before in
+    let lent = s .args .terms .lent in
+    (omega (arith, c .lent-haircut .ensures, lent-bound (lent .goods) (lent .step) (lent .life)), s .pre .1)
+
+returns : tie.Need-returns
+unfolding lentCut
+returns c =
+    let h = c .before in
+    (rw (c .scale .ensures .0, h .lent-haircut .ensures, h .before .before .pre .0), c .scale .ensures .1)
+
+pub lent-cut-spec : {M : Type 1} → statement M
+lent-cut-spec = tie.close (tie.spec lent-haircut-requires scale-requires returns)

@@ -1,0 +1,121 @@
+-- `relief::guarantee::outcome_after_cut` meets its contract: each ground that does not apply leaves the later ones. Assumes nothing.
+use Prim.Native.Nat.{ℕ, _≤_, _<_}
+use mathlib.Core.Path.{_≡_, sym, _∙_}
+use lib.ListN.{drop}
+use borrow.Author.Tests.{eq-eqb, ne-eqb, le-leb, lt-leb}
+use Rattle.base.specs.FirstMet.{firstOr}
+use Rattle.base.proofs.FirstMet.{first-given, first-later}
+use Rattle.base.proofs.Tests.{tests, told-true, told-false}
+use Rattle.tables.specs.Table.{table2019}
+use Rattle.deal.specs.declared.terms.Terms.{Terms}
+use Rattle.deal.specs.declared.guarantee.Guarantee.{Guarantee}
+use Rattle.relief.specs.declared.outcome.Outcome.{Outcome}
+use Rattle.relief.specs.declared.outcome.Outcome.the-variants.{Valued}
+use Rattle.relief.specs.Recognition.{guaranteeValue, guaranteeGrounds, guaranteeOutcome, counterpartyWeightOf, providerWeightOf}
+use Rattle.relief.proofs.guarantee.outcome_after_cut.Statement.{statement}
+use Rattle.relief.proofs.guarantee.outcome_after_cut.Tie as tie
+
+-- what the grounds after the first n give
+abbrev later : Terms → Guarantee → ℕ → Outcome
+later t x n = firstOr (Valued (guaranteeValue t x)) (drop n (guaranteeGrounds table2019 t x))
+
+abbrev Past : Terms → Guarantee → ℕ → Type 0
+Past t x n = guaranteeOutcome table2019 t x ≡ later t x n
+
+unrated-entity-requires : tie.Need-unrated-entity-requires
+unrated-entity-requires c κs = tt
+
+short-original-requires : tie.Need-short-original-requires
+short-original-requires c κs = tt
+
+short-residual-requires : tie.Need-short-residual-requires
+short-residual-requires c κs = tt
+
+recognised-requires : tie.Need-recognised-requires
+recognised-requires c κs = search tests
+
+returns : tie.Need-returns
+unfolding guaranteeOutcome guaranteeGrounds
+returns c = sym (first-given _ _ _ _ (eq-eqb _ 0 (c .if1 .taken)))
+
+past-1 : (c : tie.Else1) → let a = c .before .before .args in Past (a .terms) (a .item) 1
+unfolding guaranteeOutcome guaranteeGrounds
+past-1 c = first-later _ _ _ _ (ne-eqb _ 0 (c .if1 .left))
+
+returns-2 : tie.Need-returns-2
+unfolding guaranteeGrounds
+returns-2 c = sym (past-1 (c .before .before) ∙ first-given _ _ _ _ (eq-eqb _ 0 (c .if2 .taken)))
+
+past-2 : (c : tie.Else2) → let a = c .before .before .before .before .args in Past (a .terms) (a .item) 2
+unfolding guaranteeGrounds
+past-2 c = past-1 (c .before .before) ∙ first-later _ _ _ _ (ne-eqb _ 0 (c .if2 .left))
+
+returns-3 : tie.Need-returns-3
+unfolding guaranteeGrounds
+returns-3 c = sym (past-2 (c .before .before) ∙ first-given _ _ _ _ (eq-eqb _ 0 (c .if3 .taken)))
+
+past-3 : (c : tie.Else3) → let a = c .before .before .before .before .before .before .args in Past (a .terms) (a .item) 3
+unfolding guaranteeGrounds
+past-3 c = past-2 (c .before .before) ∙ first-later _ _ _ _ (ne-eqb _ 0 (c .if3 .left))
+
+returns-4 : tie.Need-returns-4
+unfolding guaranteeGrounds
+returns-4 c = sym (past-3 (c .before .before) ∙ first-given _ _ _ _ (told-true _ _ (c .before .unrated-entity .ensures) (c .if4 .taken)))
+
+past-4 : (c : tie.Else4) → let a = c .before .before .before .before .before .before .before .before .args in Past (a .terms) (a .item) 4
+unfolding guaranteeGrounds
+past-4 c = past-3 (c .before .before) ∙ first-later _ _ _ _ (told-false _ _ (c .before .unrated-entity .ensures) (c .if4 .left))
+
+returns-5 : tie.Need-returns-5
+unfolding guaranteeGrounds
+returns-5 c = sym (past-4 (c .before .before) ∙ first-given _ _ _ _ (told-true _ _ (c .before .short-original .ensures) (c .if5 .taken)))
+
+past-5 : (c : tie.Else5) → let a = c .before .before .before .before .before .before .before .before .before .before .args in Past (a .terms) (a .item) 5
+unfolding guaranteeGrounds
+past-5 c = past-4 (c .before .before) ∙ first-later _ _ _ _ (told-false _ _ (c .before .short-original .ensures) (c .if5 .left))
+
+returns-6 : tie.Need-returns-6
+unfolding guaranteeGrounds
+returns-6 c = sym (past-5 (c .before .before) ∙ first-given _ _ _ _ (told-true _ _ (c .before .short-residual .ensures) (c .if6 .taken)))
+
+past-6 : (c : tie.Else6) → let a = c .before .before .before .before .before .before .before .before .before .before .before .before .args in Past (a .terms) (a .item) 6
+unfolding guaranteeGrounds
+past-6 c = past-5 (c .before .before) ∙ first-later _ _ _ _ (told-false _ _ (c .before .short-residual .ensures) (c .if6 .left))
+
+-- the weights compared are those of the definition
+returns-7 : tie.Need-returns-7
+unfolding guaranteeGrounds
+returns-7 c =
+    let s = c .before .before .before .before .before .before .before .before .before .before .before .before .before in
+    let h : counterpartyWeightOf table2019 (s .args .terms) ≤ providerWeightOf table2019 (s .args .item) = rw (sym (s .pre .1 .0), sym (s .pre .1 .1)) (c .if7 .taken) in
+    sym (past-6 (c .before) ∙ first-given _ _ _ _ (le-leb _ _ h))
+
+past-7 : (c : tie.Else7) → let a = c .before .before .before .before .before .before .before .before .before .before .before .before .before .args in Past (a .terms) (a .item) 7
+unfolding guaranteeGrounds
+past-7 c =
+    let s = c .before .before .before .before .before .before .before .before .before .before .before .before .before in
+    let h : providerWeightOf table2019 (s .args .item) < counterpartyWeightOf table2019 (s .args .terms) = rw (sym (s .pre .1 .0), sym (s .pre .1 .1)) (c .if7 .left) in
+    past-6 (c .before) ∙ first-later _ _ _ _ (lt-leb _ _ h)
+
+returns-8 : tie.Need-returns-8
+unfolding guaranteeGrounds guaranteeValue firstOr
+returns-8 c =
+    let s = c .before .before .before .before .before .before .before .before .before .before .before .before .before .before in
+    rw (c .recognised .ensures, s .pre .0 .1) (sym (past-7 (c .before)))
+
+pub outcome-after-cut-spec : {M : Type 1} → statement M
+outcome-after-cut-spec =
+    tie.close
+    (tie.spec
+    returns
+    returns-2
+    returns-3
+    unrated-entity-requires
+    returns-4
+    short-original-requires
+    returns-5
+    short-residual-requires
+    returns-6
+    returns-7
+    recognised-requires
+    returns-8)

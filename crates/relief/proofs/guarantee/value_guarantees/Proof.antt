@@ -1,0 +1,124 @@
+-- `relief::guarantee::value_guarantees` meets its contract: after i items the first i places of both arrays are filled. Assumes nothing.
+use Prim.Native.Nat.{ℕ, _-_, _≤_, _<_}
+use mathlib.Core.Path.{_≡_, refl, _∙_}
+use mathlib.Core.List.{List, map, _++_}
+use native.Mathlib.Omega.{arith}
+use lib.ListN.{length, take, drop, replicate, length-map}
+use lib.Seq.{length-take-le}
+use Rattle.base.proofs.Arrays.{unmapped}
+use Rattle.base.proofs.Places.{fill-more, placed}
+use Rattle.tables.specs.Table.{table2019}
+use Rattle.scaling.specs.Shared.{Right}
+use Rattle.scaling.specs.declared.shared.ScaledHaircuts.{ScaledHaircuts}
+use Rattle.cover.specs.declared.protection.Protection.{Protection}
+use Rattle.deal.specs.Deals.{zeroGuarantee}
+use Rattle.deal.specs.declared.terms.Terms.{Terms}
+use Rattle.deal.specs.declared.guarantee.Guarantee.{Guarantee}
+use Rattle.deal.proofs.Plain.{guarantee-count, guarantee-taken}
+use Rattle.relief.specs.declared.guarantee.GuaranteeReport.{GuaranteeReport}
+use Rattle.relief.specs.Recognition.{protectionOf}
+use Rattle.relief.specs.Report.{noGuarantee}
+use Rattle.relief.specs.Working.{uncovered, noProtection}
+use Rattle.relief.proofs.guarantee.value_guarantees.Statement.{statement}
+use Rattle.relief.proofs.guarantee.value_guarantees.Tie as tie
+
+record Holds (t : Terms) (items : List Guarantee) (count period : ℕ) (reports : List GuaranteeReport) (protections : List Protection) (known : ScaledHaircuts) (i : ℕ) : Type 0 where
+  passed : i ≤ count
+  held : count ≤ 16
+  reported : reports ≡ map (uncovered table2019 t) (take i items) ++ drop i (replicate 16 noGuarantee)
+  protected : protections ≡ map (protectionOf table2019 t) (take i items) ++ drop i (replicate 16 noProtection)
+  same : known .period ≡ period
+  right : Right known
+
+abbrev Inv-loop : tie.InvT-loop
+Inv-loop terms limit items count reports₀ protections₀ known₀ i₀ reports protections known i = Holds terms items count (known₀ .period) reports protections known i
+
+abbrev μ-loop : tie.MeasureT-loop
+μ-loop terms limit items count reports₀ protections₀ known₀ i₀ reports protections known i = count - i
+
+long : (c : tie.Start Inv-loop μ-loop) → length (c .args .list .items) ≡ 16
+long c = search (unmapped, c .good)
+
+loop-holds : tie.Need-loop-holds Inv-loop μ-loop
+loop-holds c =
+    let s = c .before in
+    record { passed = omega arith; held = guarantee-count (s .args .list) (s .pre .0 .0); reported = refl; protected = refl; same = refl; right = s .pre .1 .1 }
+
+mul-item : tie.Need-mul-item Inv-loop μ-loop
+mul-item c = omega arith
+
+array-copy-out-item : tie.Need-array-copy-out-item Inv-loop μ-loop
+array-copy-out-item c = omega arith
+
+value-item-requires : tie.Need-value-item-requires Inv-loop μ-loop
+value-item-requires c κs =
+    let l = c .before .before in
+    let s = l .before .before in
+    let item = guarantee-taken (s .args .list) (s .pre .0 .0) (l .loop .i) zeroGuarantee (c .before .loop-test .taken) (omega (arith, long s)) in
+    ((item, s .pre .0 .1), (l .loop .inv .same ∙ s .pre .1 .0, l .loop .inv .right))
+
+mul-reports : tie.Need-mul-reports Inv-loop μ-loop
+mul-reports c = omega arith
+
+array-set-from-reports : tie.Need-array-set-from-reports Inv-loop μ-loop
+array-set-from-reports c = omega arith
+
+mul-protections : tie.Need-mul-protections Inv-loop μ-loop
+mul-protections c = omega arith
+
+array-set-from-protections : tie.Need-array-set-from-protections Inv-loop μ-loop
+array-set-from-protections c = omega arith
+
+add-i : tie.Need-add-i Inv-loop μ-loop
+add-i c = omega arith
+
+loop-less : tie.Need-loop-less Inv-loop μ-loop
+loop-less c = omega arith
+
+loop-again : tie.Need-loop-again Inv-loop μ-loop
+loop-again c =
+    let v = c .before .before in
+    let l = v .before .before .before in
+    let s = l .before .before in
+    let items = s .args .list .items in
+    let i = l .loop .i in
+    let h : i < length items = omega (arith, long s) in
+    record {
+      passed = omega arith;
+      held = l .loop .inv .held;
+      reported = rw (l .loop .inv .reported, v .value-item .ensures .0 .0) (fill-more (uncovered table2019 (s .args .terms)) zeroGuarantee i items _ h (omega arith));
+      protected = rw (l .loop .inv .protected, v .value-item .ensures .0 .1) (fill-more (protectionOf table2019 (s .args .terms)) zeroGuarantee i items _ h (omega arith));
+      same = v .value-item .ensures .1 .0 ∙ l .loop .inv .same;
+      right = v .value-item .ensures .1 .1;
+    }
+
+returns : tie.Need-returns Inv-loop μ-loop
+returns c =
+    let l = c .before .loop in
+    let s = c .before .before .before in
+    let counted = take (s .args .list .count) (s .args .list .items) in
+    let count = s .args .list .count in
+    let e : l .i ≡ count = omega arith in
+    let n : length counted ≡ count = length-take-le count (s .args .list .items) (omega (arith, long s, l .inv .held)) in
+    let f = uncovered table2019 (s .args .terms) in
+    let g = protectionOf table2019 (s .args .terms) in
+    (rw (l .inv .reported, e) (placed 16 count noGuarantee (map f counted) (length-map counted f ∙ n)), rw (l .inv .protected, e) (placed 16 count noProtection (map g counted) (length-map counted g ∙ n)))
+
+pub value-guarantees-spec : {M : Type 1} → statement M
+value-guarantees-spec =
+    tie.close
+    (tie.spec
+    Inv-loop
+    μ-loop
+    loop-holds
+    mul-item
+    array-copy-out-item
+    value-item-requires
+    mul-reports
+    array-set-from-reports
+    mul-protections
+    array-set-from-protections
+    add-i
+    loop-less
+    loop-again
+    returns)

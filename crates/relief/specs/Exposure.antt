@@ -1,0 +1,39 @@
+-- The exposure after collateral and the weighted amount, from a deal's terms and items. 01: From items to the weighted amount, 3 to 5
+use Prim.Native.Nat.{ℕ, _-_, min}
+use mathlib.Core.List.{List, map}
+use Rattle.base.specs.Sum.{sumOf}
+use Rattle.tables.specs.Table.{Table}
+use Rattle.scaling.specs.Period.{holdingPeriod}
+use Rattle.scaling.specs.Scaling.{scaled}
+use Rattle.valuation.specs.Exposure.{raised, weighted}
+use Rattle.cover.specs.Cover.{weightedSum}
+use Rattle.cover.specs.declared.protection.Protection.{Protection}
+use Rattle.deal.specs.declared.terms.Terms.{Terms}
+use Rattle.deal.specs.declared.collateral.Collateral.{Collateral}
+use Rattle.deal.specs.declared.guarantee.Guarantee.{Guarantee}
+use Rattle.relief.specs.Outcomes.{outcomeValue}
+use Rattle.relief.specs.Recognition.{collateralOutcome, protectionOf, counterpartyWeightOf}
+
+-- the lent goods' haircut, over the deal's own period
+unfoldable pub lentCut : Table → Terms → ℕ
+lentCut table t = scaled (table .lentHaircut (t .lent .goods) (t .lent .step) (t .lent .life)) (holdingPeriod (t .kind) (t .interval))
+
+-- "The exposure is raised by the lent goods' haircut, rounded up". CRE22.40, E · (1 + He)
+unfoldable pub raisedExposure : Table → Terms → ℕ
+raisedExposure table t = raised (t .amount) (lentCut table t)
+
+-- "all collateral values"
+unfoldable pub collateralTotal : Table → Terms → List Collateral → ℕ
+collateralTotal table t cs = sumOf (λ c. outcomeValue (collateralOutcome table t c)) cs
+
+-- "E* is that less all collateral values, not below 0, and never above the deal's amount (22.4 decides over 22.40)" (the library's
+-- difference is never below 0)
+unfoldable pub exposureAfter : Table → Terms → List Collateral → ℕ
+exposureAfter table t cs = min (t .amount) (raisedExposure table t - collateralTotal table t cs)
+
+abbrev pub protections : Table → Terms → List Guarantee → List Protection
+protections table t gs = map (protectionOf table t) gs
+
+-- "The weighted amount is the sum of portion × weight, divided by 100 once and rounded up"
+unfoldable pub weightedAmount : Table → Terms → List Collateral → List Guarantee → ℕ
+weightedAmount table t cs gs = weighted (weightedSum (counterpartyWeightOf table t) (exposureAfter table t cs) (protections table t gs))

@@ -1,0 +1,91 @@
+-- Which items are recognised, and what they are worth. 01: Grounds for leaving an item out; From items to the weighted amount, 1
+-- and 2. The figures that depend on type, class and step come from a table (`table2019` for reporting)
+use Prim.Native.Nat.{ℕ}
+use mathlib.Core.Bool.{Bool, not, _&&_}
+use mathlib.Core.List.{List, [], _∷_}
+use lib.Dec.{leb, ltb, eqb}
+use Rattle.base.specs.FirstMet.{Test, _when_, firstOr}
+use Rattle.tables.specs.Table.{Table}
+use Rattle.scaling.specs.Period.{holdingPeriod, guaranteePeriod}
+use Rattle.valuation.specs.Haircuts.{collateralCut, currencyCut}
+use Rattle.valuation.specs.Protection.{isMismatch, recognised}
+use Rattle.cover.specs.declared.protection.Protection.{Protection}
+use Rattle.deal.specs.declared.terms.Terms.{Terms}
+use Rattle.deal.specs.declared.collateral.Collateral.{Collateral}
+use Rattle.deal.specs.declared.guarantee.Guarantee.{Guarantee}
+use Rattle.relief.specs.declared.outcome.Outcome.{Outcome}
+use Rattle.relief.specs.declared.outcome.Outcome.the-variants.{Valued, LeftOut}
+use Rattle.relief.specs.declared.ground.Ground.the-variants.{NotLawful, Related, AlreadyInRating, NotEligible, ShortOriginalTerm, ShortResidualTerm, NotDirect, UnratedEntity, WeightNotBelow}
+use Rattle.relief.specs.Outcomes.{outcomeValue}
+
+-- "mismatch with original term under 360", a year; "mismatch with residual term of 90 or less", three months. CRE22.35, CRE22.99
+unfoldable pub shortOriginal : Terms → ℕ → ℕ → Bool
+shortOriginal t residual original = isMismatch residual (t .residual) && ltb original 360
+
+unfoldable pub shortResidual : Terms → ℕ → Bool
+shortResidual t residual = isMismatch residual (t .residual) && leb residual 90
+
+-- Collateral
+
+-- the haircut of its goods and, in another currency than the deal's, the currency haircut, each scaled over the deal's own n
+unfoldable pub cutOf : Table → Terms → Collateral → ℕ
+cutOf table t c =
+    collateralCut (table .haircut (c .asset .goods) (c .asset .step) (c .asset .life)) (c .currency) (t .currency) (holdingPeriod (t .kind) (t .interval))
+
+unfoldable pub collateralValue : Table → Terms → Collateral → ℕ
+collateralValue table t c = recognised (c .amount) (cutOf table t c) (c .residual) (t .residual)
+
+-- 21, 22, 23, 24, 25, 26 (`groundNumber`; `collateral-ground` reads this list in numbers)
+unfoldable pub collateralGrounds : Table → Terms → Collateral → List (Test Outcome)
+collateralGrounds table t c =
+    LeftOut NotLawful when eqb (c .lawful) 0
+    ∷ LeftOut Related when eqb (c .unrelated) 0
+    ∷ LeftOut AlreadyInRating when eqb (c .unreflected) 0
+    ∷ LeftOut NotEligible when not (table .eligible (c .asset .goods) (c .asset .step) (c .listed))
+    ∷ LeftOut ShortOriginalTerm when shortOriginal t (c .residual) (c .original)
+    ∷ LeftOut ShortResidualTerm when shortResidual t (c .residual)
+    ∷ []
+
+-- "First that applies"; its value where none does
+unfoldable pub collateralOutcome : Table → Terms → Collateral → Outcome
+collateralOutcome table t c = firstOr (Valued (collateralValue table t c)) (collateralGrounds table t c)
+
+-- Guarantees
+
+-- "The weight comes from class and step alone"
+abbrev pub counterpartyWeightOf : Table → Terms → ℕ
+counterpartyWeightOf table t = table .counterpartyWeight (t .counterparty .class) (t .counterparty .step)
+
+abbrev pub providerWeightOf : Table → Guarantee → ℕ
+providerWeightOf table g = table .providerWeight (g .provider .class) (g .provider .step)
+
+-- "3 other entity"
+abbrev pub otherEntity : ℕ
+otherEntity = 3
+
+abbrev pub isUnratedEntity : Guarantee → Bool
+isUnratedEntity g = eqb (g .provider .class) otherEntity && eqb (g .provider .step) 0
+
+-- "Guarantees have only the currency haircut", which "always uses n = interval + 9"
+unfoldable pub guaranteeValue : Terms → Guarantee → ℕ
+guaranteeValue t g =
+    recognised (g .amount) (currencyCut (g .currency) (t .currency) (guaranteePeriod (t .interval))) (g .residual) (t .residual)
+
+-- 21, 27, 23, 28, 25, 26, 29 (`guarantee-ground`)
+unfoldable pub guaranteeGrounds : Table → Terms → Guarantee → List (Test Outcome)
+guaranteeGrounds table t g =
+    LeftOut NotLawful when eqb (g .lawful) 0
+    ∷ LeftOut NotDirect when eqb (g .direct) 0
+    ∷ LeftOut AlreadyInRating when eqb (g .unreflected) 0
+    ∷ LeftOut UnratedEntity when isUnratedEntity g
+    ∷ LeftOut ShortOriginalTerm when shortOriginal t (g .residual) (g .original)
+    ∷ LeftOut ShortResidualTerm when shortResidual t (g .residual)
+    ∷ LeftOut WeightNotBelow when leb (counterpartyWeightOf table t) (providerWeightOf table g)
+    ∷ []
+
+unfoldable pub guaranteeOutcome : Table → Terms → Guarantee → Outcome
+guaranteeOutcome table t g = firstOr (Valued (guaranteeValue t g)) (guaranteeGrounds table t g)
+
+-- what it covers with: its value, 0 where it is left out, at its provider's weight
+abbrev pub protectionOf : Table → Terms → Guarantee → Protection
+protectionOf table t g = record { value = outcomeValue (guaranteeOutcome table t g); weight = providerWeightOf table g }

@@ -1,0 +1,35 @@
+// The exposure after collateral.
+ghost use mathlib.Core.Path.{_≡_};
+ghost use Prim.Native.Nat.{min, _-_};
+ghost use Rattle.deal.specs.Terms.{termsRefusal};
+ghost use Rattle.scaling.specs.Period.{holdingPeriod};
+ghost use Rattle.scaling.specs.Shared.{Right};
+ghost use Rattle.tables.specs.Table.{table2019};
+ghost use Rattle.relief.specs.Exposure.{lentCut, raisedExposure};
+use base::smaller;
+use deal::terms::Terms;
+use scaling::shared::Scaled;
+use scaling::shared::ScaledHaircuts;
+use tables::haircuts::lent_haircut;
+use valuation::exposure::raised;
+
+// The haircut of the goods lent, over the deal's holding period.
+pub fn lent_cut(terms: Terms, known: ScaledHaircuts) -> Scaled
+    requires { ⌜ (known .period ≡ holdingPeriod (terms .kind) (terms .interval)) × Right known ⌝ }
+    ensures { λ r. ⌜ (r .haircut ≡ lentCut table2019 terms) × ((r .known .period ≡ known .period) × Right (r .known)) ⌝ }
+{
+    let lent = terms.lent;
+    known.scale(lent_haircut(lent.goods, lent.step, lent.life))
+}
+
+// The exposure raised by that haircut, less the collateral's total, and never more than the deal's amount.
+pub fn exposure_after(terms: Terms, cut: u64, total: u64) -> u64
+    requires { ⌜ (termsRefusal terms ≡ 0) × (cut ≡ lentCut table2019 terms) ⌝ }
+    ensures { λ r. ⌜ r ≡ min (terms .amount) (raisedExposure table2019 terms - total) ⌝ }
+{
+    let exposure = raised(terms.amount, cut);
+    if exposure <= total {
+        return 0;
+    }
+    smaller(terms.amount, exposure - total)
+}

@@ -1,0 +1,179 @@
+// What a deal's guarantees are worth, and at which risk weight.
+ghost use mathlib.Core.Bool.{true};
+ghost use mathlib.Core.List.{map, zipWith, _++_};
+ghost use mathlib.Core.Path.{_≡_};
+ghost use Prim.Native.Nat.{_≤_};
+ghost use lib.ListN.{drop, replicate, take};
+ghost use Rattle.base.specs.Places.{inPlaces};
+ghost use Rattle.deal.specs.Items.{countedGuarantees, guaranteeListAllowed, guaranteeRefusal, listLimit};
+ghost use Rattle.scaling.specs.Period.{guaranteePeriod};
+ghost use Rattle.scaling.specs.Shared.{Right};
+ghost use Rattle.tables.specs.Table.{table2019};
+ghost use Rattle.valuation.specs.Haircuts.{currencyCut};
+ghost use Rattle.relief.specs.Recognition.{counterpartyWeightOf, guaranteeOutcome, isUnratedEntity, protectionOf, providerWeightOf};
+ghost use Rattle.relief.specs.Exposure.{protections};
+ghost use Rattle.relief.specs.Report.{noGuarantee};
+ghost use Rattle.relief.specs.Working.{covering, noProtection, uncovered};
+use crate::ground::Ground;
+use crate::maturity::short_original;
+use crate::maturity::short_residual;
+use crate::outcome::Outcome;
+use cover::protection::Protection;
+use deal::guarantee::Guarantee;
+use deal::guarantee::GuaranteeList;
+use deal::terms::Terms;
+use scaling::shared::ScaledHaircuts;
+use tables::weights::provider_weight;
+use valuation::haircuts::currency_cut;
+use valuation::protection::recognised;
+
+const OTHER_ENTITY: u64 = 3;
+
+pub struct GuaranteeReport {
+    pub outcome: Outcome,
+    // What it covers of the exposure after collateral.
+    pub portion: u64,
+}
+
+// One guarantee's outcome, what it covers with, and the haircuts known after it.
+pub struct GuaranteeOutcome {
+    pub outcome: Outcome,
+    pub protection: Protection,
+    pub known: ScaledHaircuts,
+}
+
+// What all guarantees come to, in order of adding, before they cover anything.
+pub struct GuaranteeValues {
+    pub reports: [GuaranteeReport; 16],
+    pub protections: [Protection; 16],
+}
+
+fn unrated_entity(item: Guarantee) -> bool
+    ensures { λ r. ⌜ r ≡ isUnratedEntity item ⌝ }
+{
+    let provider = item.provider;
+    if provider.class != OTHER_ENTITY {
+        return false;
+    }
+    provider.step == 0
+}
+
+// The first ground that applies, or the value after this haircut. `weight` is the provider's, `limit` the counterparty's.
+fn outcome_after_cut(terms: Terms, item: Guarantee, cut: u64, weight: u64, limit: u64) -> Outcome
+    requires { ⌜ (item .amount ≤ 1000000000000) × (cut ≡ currencyCut (item .currency) (terms .currency) (guaranteePeriod (terms .interval))) ⌝ }
+    requires { ⌜ (weight ≡ providerWeightOf table2019 item) × (limit ≡ counterpartyWeightOf table2019 terms) ⌝ }
+    ensures { λ r. ⌜ r ≡ guaranteeOutcome table2019 terms item ⌝ }
+{
+    if item.lawful == 0 {
+        return Outcome::LeftOut(Ground::NotLawful);
+    }
+    if item.direct == 0 {
+        return Outcome::LeftOut(Ground::NotDirect);
+    }
+    if item.unreflected == 0 {
+        return Outcome::LeftOut(Ground::AlreadyInRating);
+    }
+    if unrated_entity(item) {
+        return Outcome::LeftOut(Ground::UnratedEntity);
+    }
+    if short_original(terms, item.residual, item.original) {
+        return Outcome::LeftOut(Ground::ShortOriginalTerm);
+    }
+    if short_residual(terms, item.residual) {
+        return Outcome::LeftOut(Ground::ShortResidualTerm);
+    }
+    if weight >= limit {
+        return Outcome::LeftOut(Ground::WeightNotBelow);
+    }
+    Outcome::Valued(recognised(item.amount, cut, item.residual, terms.residual))
+}
+
+// One guarantee; `limit` is the counterparty's weight.
+fn value_item(terms: Terms, item: Guarantee, limit: u64, known: ScaledHaircuts) -> GuaranteeOutcome
+    requires { ⌜ (guaranteeRefusal item ≡ 0) × (limit ≡ counterpartyWeightOf table2019 terms) ⌝ }
+    requires { ⌜ (known .period ≡ guaranteePeriod (terms .interval)) × Right known ⌝ }
+    ensures { λ r. ⌜ (r .outcome ≡ guaranteeOutcome table2019 terms item) × (r .protection ≡ protectionOf table2019 terms item) ⌝ }
+    ensures { λ r. ⌜ (r .known .period ≡ known .period) × Right (r .known) ⌝ }
+{
+    let provider = item.provider;
+    let weight = provider_weight(provider.class, provider.step);
+    let cut = currency_cut(known, item.currency, terms.currency);
+    let outcome = outcome_after_cut(terms, item, cut.haircut, weight, limit);
+    let value = outcome.value();
+    let known = cut.known;
+    GuaranteeOutcome {
+        outcome,
+        protection: Protection { value, weight },
+        known,
+    }
+}
+
+// Every guarantee of a deal; `limit` is the counterparty's weight.
+pub fn value_guarantees(
+    terms: Terms,
+    list: GuaranteeList,
+    limit: u64,
+    known: ScaledHaircuts,
+) -> GuaranteeValues
+    requires { ⌜ (guaranteeListAllowed list ≡ true) × (limit ≡ counterpartyWeightOf table2019 terms) ⌝ }
+    requires { ⌜ (known .period ≡ guaranteePeriod (terms .interval)) × Right known ⌝ }
+    ensures { λ r. ⌜ r .reports ≡ inPlaces listLimit noGuarantee (map (uncovered table2019 terms) (countedGuarantees list)) ⌝ }
+    ensures { λ r. ⌜ r .protections ≡ inPlaces listLimit noProtection (protections table2019 terms (countedGuarantees list)) ⌝ }
+{
+    let items = list.items;
+    let count = list.count;
+    let none = GuaranteeReport {
+        outcome: Outcome::Valued(0),
+        portion: 0,
+    };
+    let mut reports = [none; 16];
+    let nothing = Protection {
+        value: 0,
+        weight: 0,
+    };
+    let mut protections = [nothing; 16];
+    let mut known = known;
+    let mut i: usize = 0;
+    while i < count {
+        let item = items[i];
+        let valued = value_item(terms, item, limit, known);
+        let outcome = valued.outcome;
+        reports[i] = GuaranteeReport {
+            outcome,
+            portion: 0,
+        };
+        let protection = valued.protection;
+        protections[i] = protection;
+        known = valued.known;
+        i += 1;
+    }
+    GuaranteeValues {
+        reports,
+        protections,
+    }
+}
+
+// The reports with their portions.
+pub fn with_portions(
+    values: [GuaranteeReport; 16],
+    portions: [u64; 16],
+    count: usize,
+) -> [GuaranteeReport; 16]
+    requires { ⌜ count ≤ 16 ⌝ }
+    ensures { λ r. ⌜ r ≡ zipWith covering (take count values) (take count portions) ++ drop count (replicate 16 noGuarantee) ⌝ }
+{
+    let none = GuaranteeReport {
+        outcome: Outcome::Valued(0),
+        portion: 0,
+    };
+    let mut reports = [none; 16];
+    let mut i: usize = 0;
+    while i < count {
+        let value = values[i];
+        let outcome = value.outcome;
+        let portion = portions[i];
+        reports[i] = GuaranteeReport { outcome, portion };
+        i += 1;
+    }
+    reports
+}
