@@ -7,34 +7,14 @@ use native.Mathlib.Omega.{arith}
 use lib.Dec.{ltb}
 use lib.ListN.{replicate}
 use Rattle.base.specs.All.{all}
-use Rattle.base.specs.Choice.{if_then_else_}
-use Rattle.base.specs.FirstMet.{firstOr}
-use Rattle.base.specs.Least.{least, between}
-use Rattle.base.specs.Range.{within}
-use Rattle.base.specs.Rounding.{roundUp}
-use Rattle.base.specs.Sum.{sumOf}
-use Rattle.tables.specs.Eligibility.{eligible, bankDebtEligible, equityOrGold}
-use Rattle.tables.specs.Haircuts.{rowOf, bandOf, columnOf as issuerColumn, debtHaircut, haircut, lentHaircut}
-use Rattle.tables.specs.Weights.{columnOf, tableWeight, counterpartyWeight, providerWeight}
-use Rattle.scaling.specs.Period.{minimumPeriod, holdingPeriod, guaranteePeriod}
-use Rattle.scaling.specs.Scaling.{scaled}
-use Rattle.valuation.specs.Haircuts.{currencyCut, collateralCut}
-use Rattle.valuation.specs.Protection.{keepShare, reduced, mismatched, adjusted, recognised}
-use Rattle.valuation.specs.Exposure.{raised, weighted}
-use Rattle.cover.specs.Cover.{lighter, equal, before, portion, coveredAfter, covered, rest, weightedSum}
-use Rattle.deal.specs.Parties.{partyStepAllowed}
-use Rattle.deal.specs.Assets.{assetStepAllowed, lifeAllowed}
-use Rattle.deal.specs.Terms.{termsOf, termsTests, termsRefusal}
-use Rattle.deal.specs.Items.{collateralTests, collateralRefusal, guaranteeTests, guaranteeRefusal, collateralListAllowed, guaranteeListAllowed}
+use Rattle.deal.specs.Terms.{termsOf}
 use Rattle.deal.specs.Deals.{accepted, withoutProtection}
 use Rattle.deal.specs.declared.terms.Terms.{Terms}
 use Rattle.deal.specs.declared.collateral.Collateral.{Collateral}
 use Rattle.deal.specs.declared.guarantee.Guarantee.{Guarantee}
 use Rattle.deal.specs.declared.deal.Deal.{Deal}
-use Rattle.relief.specs.Outcomes.{outcomeValue}
-use Rattle.relief.specs.Recognition.{shortOriginal, shortResidual, cutOf, collateralValue, collateralGrounds, collateralOutcome, guaranteeValue, guaranteeGrounds, guaranteeOutcome}
-use Rattle.relief.specs.Exposure.{lentCut, raisedExposure, collateralTotal, exposureAfter, weightedAmount}
-use Rattle.relief.specs.Report.{fullReport, reportUnder, reportOf}
+use Rattle.relief.proofs.Computed.{computed}
+use Rattle.relief.specs.Report.{reportOf}
 use Rattle.betterment.specs.Changes.{collateralAmount, collateralStep, collateralCurrency, collateralResidual, collateralOriginal, collateralLawful, collateralUnrelated, collateralUnreflected, guaranteeAmount, guaranteeStep, guaranteeCurrency, guaranteeResidual, guaranteeOriginal, guaranteeLawful, guaranteeDirect, guaranteeUnreflected, termsInterval}
 use Rattle.betterment.specs.Views.{View, viewOf, acceptedView, recordOf}
 use Rattle.betterment.specs.Betterments.{BetterCollateral, BetterGuarantee, BetterTerms, OneChanged, OneMore, Better, Betterments}
@@ -75,9 +55,9 @@ backing = record {
 abbrev deal : Terms → List Collateral → List Guarantee → Deal
 deal t cs gs = recordOf (record { terms = t; collateral = cs; guarantees = gs })
 
--- the weighted amount that reporting gives, with all that it computes by open
+-- the weighted amount that reporting gives, worked out
 amount : Deal → ℕ
-unfolding accepted collateralListAllowed guaranteeListAllowed termsRefusal termsTests collateralRefusal collateralTests guaranteeRefusal guaranteeTests firstOr within partyStepAllowed assetStepAllowed lifeAllowed if_then_else_ least between roundUp sumOf eligible bankDebtEligible equityOrGold rowOf bandOf issuerColumn debtHaircut haircut lentHaircut columnOf tableWeight counterpartyWeight providerWeight minimumPeriod holdingPeriod guaranteePeriod scaled currencyCut collateralCut keepShare reduced mismatched adjusted recognised raised weighted lighter equal before portion coveredAfter covered rest weightedSum outcomeValue shortOriginal shortResidual cutOf collateralValue collateralGrounds collateralOutcome guaranteeValue guaranteeGrounds guaranteeOutcome lentCut raisedExposure collateralTotal exposureAfter weightedAmount fullReport reportUnder
+unfolding computed
 amount d = reportOf d .weighted
 
 book : amount (deal loan (debt ∷ []) (backing ∷ [])) ≡ 411314

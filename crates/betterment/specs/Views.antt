@@ -5,10 +5,9 @@ use mathlib.Core.List.{List}
 use lib.Dec.{leb, eqb}
 use lib.ListN.{length}
 use Rattle.base.specs.All.{all}
-use Rattle.base.specs.Places.{inPlaces}
 use Rattle.deal.specs.Terms.{termsRefusal}
 use Rattle.deal.specs.Items.{collateralRefusal, guaranteeRefusal, listLimit, countedCollateral, countedGuarantees}
-use Rattle.deal.specs.Deals.{zeroCollateral, zeroGuarantee}
+use Rattle.deal.specs.Deals.{dealWith}
 use Rattle.deal.specs.declared.terms.Terms.{Terms}
 use Rattle.deal.specs.declared.collateral.Collateral.{Collateral}
 use Rattle.deal.specs.declared.guarantee.Guarantee.{Guarantee}
@@ -32,8 +31,4 @@ acceptedView v =
 
 -- a record that holds these fields and at most sixteen items in each list, one of many
 abbrev pub recordOf : View → Deal
-recordOf v = record {
-  terms = v .terms;
-  collateral = record { items = inPlaces listLimit zeroCollateral (v .collateral); count = length (v .collateral) };
-  guarantees = record { items = inPlaces listLimit zeroGuarantee (v .guarantees); count = length (v .guarantees) };
-}
+recordOf v = dealWith (v .terms) (v .collateral) (v .guarantees)

@@ -15,7 +15,7 @@ v at w = record { value = v; weight = w }
 abbrev later-lighter : List Protection
 later-lighter = 80 at 20 ∷ 60 at 0 ∷ []
 
-later-lighter-portions : portions 100 later-lighter ≡ 40 ∷ 60 ∷ []
+pub later-lighter-portions : portions 100 later-lighter ≡ 40 ∷ 60 ∷ []
 unfolding covered coveredAfter portion before lighter equal sumOf if_then_else_
 later-lighter-portions = refl
 
@@ -31,10 +31,15 @@ later-lighter-sum = refl
 abbrev two-equal : List Protection
 two-equal = 30 at 50 ∷ 10 at 20 ∷ 80 at 50 ∷ []
 
-two-equal-portions : portions 100 two-equal ≡ 30 ∷ 10 ∷ 60 ∷ []
+pub two-equal-portions : portions 100 two-equal ≡ 30 ∷ 10 ∷ 60 ∷ []
 unfolding covered coveredAfter portion before lighter equal sumOf if_then_else_
 two-equal-portions = refl
 
 two-equal-sum : weightedSum 150 130 two-equal ≡ 30 * 50 + 10 * 20 + 80 * 50 + 10 * 150
 unfolding weightedSum covered coveredAfter portion before rest lighter equal sumOf if_then_else_
 two-equal-sum = refl
+
+-- the sum is not rounded, portion by portion or at all
+pub unrounded : weightedSum 100 3 (1 at 50 ∷ 1 at 20 ∷ []) ≡ 170
+unfolding weightedSum covered coveredAfter portion before rest lighter equal sumOf if_then_else_
+unrounded = refl

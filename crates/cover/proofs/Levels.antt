@@ -12,6 +12,8 @@ use Rattle.base.specs.Sum.{sumOf}
 use Rattle.base.proofs.Sum.{sum-append}
 use Rattle.cover.specs.Cover.{lighter, equal, before}
 use Rattle.cover.specs.declared.protection.Protection.{Protection}
+-- the worked examples are checked before the laws
+use Rattle.cover.proofs.Examples.{later-lighter-portions, two-equal-portions, unrounded}
 
 pub side : (a b : ℕ) → (a < b) ⊎ (b ≤ a)
 side a b = go (decLe b a)
@@ -79,3 +81,11 @@ before-none w all = omega arith
 pub before-next : (w : ℕ) (all earlier : List Protection) (p : Protection) → before w all (earlier ++ p ∷ []) ≡ before w all earlier + equal w p
 unfolding before sumOf
 before-next w all earlier p = omega (arith, sum-append (equal w) earlier (p ∷ []))
+
+-- more value, no more weight: no less below any weight
+pub lighter-mono : (w : ℕ) (p p′ : Protection) → p .value ≤ p′ .value → p′ .weight ≤ p .weight → lighter w p ≤ lighter w p′
+lighter-mono w p p′ hv hw =
+    ⊎-elim
+    (λ (h : p .weight < w). omega (arith, lighter-in w p h, lighter-in w p′ (omega arith)))
+    (λ (h : w ≤ p .weight). omega (arith, lighter-out w p h))
+    (side (p .weight) w)

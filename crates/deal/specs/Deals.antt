@@ -3,8 +3,9 @@ use Prim.Native.Nat.{ℕ}
 use mathlib.Core.Bool.{Bool, not, _&&_}
 use mathlib.Core.List.{List, _∷_}
 use lib.Dec.{leb, eqb}
-use lib.ListN.{replicate}
+use lib.ListN.{length, replicate}
 use Rattle.base.specs.Choice.{if_then_else_}
+use Rattle.base.specs.Places.{inPlaces}
 use Rattle.base.specs.FirstMet.{Test, _when_, firstMet}
 use Rattle.deal.specs.Terms.{termsOf, termsRefusal}
 use Rattle.deal.specs.Items.{collateralTests, guaranteeTests, collateralListAllowed, guaranteeListAllowed, listLimit, appendCollateral, appendGuarantee}
@@ -45,6 +46,14 @@ withoutProtection t = record {
   terms = t;
   collateral = record { items = replicate listLimit zeroCollateral; count = 0 };
   guarantees = record { items = replicate listLimit zeroGuarantee; count = 0 };
+}
+
+-- a deal with these items, at most sixteen in each list; nothing in the places past them
+abbrev pub dealWith : Terms → List Collateral → List Guarantee → Deal
+dealWith t cs gs = record {
+  terms = t;
+  collateral = record { items = inPlaces listLimit zeroCollateral cs; count = length cs };
+  guarantees = record { items = inPlaces listLimit zeroGuarantee gs; count = length gs };
 }
 
 -- Opening. "A refusal gives no deal": beside it stands a record of zeros, which is no accepted deal (`refused-not-accepted`)

@@ -3,16 +3,14 @@
 use Prim.Native.Nat.{ℕ, _<_}
 use mathlib.Core.Path.{_≡_}
 use mathlib.Core.List.{List, [], _∷_}
-use lib.ListN.{length, getD}
-use Rattle.base.specs.Places.{inPlaces}
+use lib.ListN.{getD}
 use Rattle.tables.specs.Goods.{cash, otherDebt, otherListedEquity}
 use Rattle.tables.specs.Weights.{retail}
 use Rattle.tables.specs.Table.{table2019}
 use Rattle.scaling.specs.Period.{repoStyle, securedLending, holdingPeriod}
 use Rattle.scaling.specs.Scaling.{scaled}
 use Rattle.deal.specs.Terms.{termsOf}
-use Rattle.deal.specs.Items.{listLimit}
-use Rattle.deal.specs.Deals.{zeroCollateral, zeroGuarantee}
+use Rattle.deal.specs.Deals.{dealWith}
 use Rattle.deal.specs.declared.terms.Terms.{Terms}
 use Rattle.deal.specs.declared.collateral.Collateral.{Collateral}
 use Rattle.deal.specs.declared.guarantee.Guarantee.{Guarantee}
@@ -41,14 +39,6 @@ home = 978
 
 abbrev abroad : ℕ
 abroad = 840
-
--- a deal with these items
-abbrev holding : Terms → List Collateral → List Guarantee → Deal
-holding t cs gs = record {
-  terms = t;
-  collateral = record { items = inPlaces listLimit zeroCollateral cs; count = length cs };
-  guarantees = record { items = inPlaces listLimit zeroGuarantee gs; count = length gs };
-}
 
 -- secured lending in cash to an unrated corporate, which weighs 100, for 1,800 days
 abbrev loan : ℕ → ℕ → Terms
@@ -87,29 +77,29 @@ guarantee amount class step currency = record {
 
 -- what is reported of the only item of collateral of a loan of 2,000,000: its value, and its ground or 0
 abbrev value : ℕ → Collateral → ℕ
-value interval c = outcomeValue (getD (reportOf (holding (loan 2000000 interval) (c ∷ []) []) .collateral) 0 noCollateral .outcome)
+value interval c = outcomeValue (getD (reportOf (dealWith (loan 2000000 interval) (c ∷ []) []) .collateral) 0 noCollateral .outcome)
 
 abbrev ground : ℕ → Collateral → ℕ
-ground interval c = outcomeGround (getD (reportOf (holding (loan 2000000 interval) (c ∷ []) []) .collateral) 0 noCollateral .outcome)
+ground interval c = outcomeGround (getD (reportOf (dealWith (loan 2000000 interval) (c ∷ []) []) .collateral) 0 noCollateral .outcome)
 
 -- of an only guarantee
 abbrev guaranteed : ℕ → Guarantee → ℕ
-guaranteed interval g = outcomeValue (getD (reportOf (holding (loan 2000000 interval) [] (g ∷ [])) .guarantees) 0 noGuarantee .outcome)
+guaranteed interval g = outcomeValue (getD (reportOf (dealWith (loan 2000000 interval) [] (g ∷ [])) .guarantees) 0 noGuarantee .outcome)
 
 -- the exposure after an amount of cash, under the repo
 abbrev left : ℕ → ℕ
-left amount = reportOf (holding repo (pledge amount cash home 1800 1800 ∷ []) []) .exposure
+left amount = reportOf (dealWith repo (pledge amount cash home 1800 1800 ∷ []) []) .exposure
 
 -- an exposure of 100, with a bank at step 1, which weighs 20, before a sovereign at step 1, which weighs 0
 abbrev covered : Deal
-covered = holding (loan 100 1) [] (guarantee 80 2 1 home ∷ guarantee 60 1 1 home ∷ [])
+covered = dealWith (loan 100 1) [] (guarantee 80 2 1 home ∷ guarantee 60 1 1 home ∷ [])
 
 abbrev portion : ℕ → ℕ
 portion place = getD (reportOf covered .guarantees) place noGuarantee .portion
 
 -- a retail deal with nothing pledged
 abbrev retailAmount : ℕ → ℕ
-retailAmount amount = reportOf (holding (termsOf amount retail 0 home securedLending 1 1800 cash 0 0) [] []) .weighted
+retailAmount amount = reportOf (dealWith (termsOf amount retail 0 home securedLending 1 1800 cash 0 0) [] []) .weighted
 
 abbrev pub starred : List Figure
 starred =

@@ -1,3 +1,4 @@
+pub mod Cases
 pub mod Amounts
 pub mod Assembly
 pub mod Computed

@@ -10,6 +10,9 @@ use Rattle.relief.specs.declared.outcome.Outcome.{Outcome}
 use Rattle.relief.specs.declared.outcome.Outcome.the-variants.{Valued, LeftOut}
 use Rattle.relief.specs.Outcomes.{outcomeValue, outcomeGround}
 
+-- the computed cases are checked before the laws
+use Rattle.relief.proofs.Cases.{collateral-order, guarantee-order, guarantee-value}
+
 -- an outcome with a ground has value 0
 pub left-out-value : (o : Outcome) → outcomeGround o ≢ 0 → outcomeValue o ≡ 0
 unfolding outcomeGround outcomeValue

@@ -1,6 +1,6 @@
 -- What is no worse is worth no less, for every table with the laws; and what is recognised is lighter than the counterparty, for every
 -- table. Assumes nothing.
-use Prim.Native.Nat.{ℕ, _≤_, _<_}
+use Prim.Native.Nat.{ℕ, _≤_}
 use mathlib.Core.Path.{_≡_, refl, ap₂}
 use mathlib.Core.Bool.{true}
 use mathlib.Core.Logic.{inl, inr, ⊎-elim}
@@ -19,8 +19,7 @@ use Rattle.valuation.proofs.Cuts.{currency-mono, currency-same, collateral-mono
 use Rattle.valuation.proofs.Values.{recognised-mono}
 use Rattle.cover.specs.Cover.{lighter}
 use Rattle.cover.specs.Layers.{LeftOutOrLighter}
-use Rattle.cover.specs.declared.protection.Protection.{Protection}
-use Rattle.cover.proofs.Levels.{side, lighter-in, lighter-out}
+use Rattle.cover.proofs.Levels.{lighter-mono}
 use Rattle.deal.specs.declared.terms.Terms.{Terms}
 use Rattle.deal.specs.declared.collateral.Collateral.{Collateral}
 use Rattle.deal.specs.declared.guarantee.Guarantee.{Guarantee}
@@ -51,14 +50,6 @@ module _ (table : Table) (t : Terms) where
 -- "The weight comes from class and step alone"
 pub counterparty-same : (table : Table) {t t′ : Terms} → NoWorseTerms t t′ → counterpartyWeightOf table t′ ≡ counterpartyWeightOf table t
 counterparty-same table n = ap₂ (table .counterpartyWeight) (n .fields .class) (n .fields .step)
-
--- more value, no more weight: no less below any weight
-lighter-mono : (w : ℕ) (p p′ : Protection) → p .value ≤ p′ .value → p′ .weight ≤ p .weight → lighter w p ≤ lighter w p′
-lighter-mono w p p′ hv hw =
-    ⊎-elim
-    (λ (h : p .weight < w). omega (arith, lighter-in w p h, lighter-in w p′ (omega arith)))
-    (λ (h : w ≤ p .weight). omega (arith, lighter-out w p h))
-    (side (p .weight) w)
 
 -- the same currency or the deal's, a shorter period: no larger a currency haircut; with a smaller haircut, no larger a sum
 currency-no-more : {a a′ b b′ n n′ : ℕ} → b′ ≡ b → SameOrDeals b a a′ → n′ ≤ n → currencyCut a′ b′ n′ ≤ currencyCut a b n

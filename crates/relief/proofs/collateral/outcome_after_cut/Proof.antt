@@ -1,6 +1,7 @@
 -- `relief::collateral::outcome_after_cut` meets its contract: each ground that does not apply leaves the later ones. Assumes nothing.
 use Prim.Native.Nat.{ℕ}
 use mathlib.Core.Path.{_≡_, sym, _∙_}
+use native.Mathlib.Omega.{arith}
 use lib.ListN.{drop}
 use borrow.Author.Tests.{eq-eqb, ne-eqb}
 use Rattle.base.specs.FirstMet.{firstOr}
@@ -36,7 +37,7 @@ recognised-requires c κs = search tests
 
 returns : tie.Need-returns
 unfolding collateralOutcome collateralGrounds
-returns c = sym (first-given _ _ _ _ (eq-eqb _ 0 (c .if1 .taken)))
+returns c = sym (first-given _ _ _ _ (eq-eqb (c .before .before .before .args .item .lawful) 0 (omega (arith, c .if1 .taken))))
 
 past-1 : (c : tie.Else1) → let a = c .before .before .before .args in Past (a .terms) (a .item) 1
 unfolding collateralOutcome collateralGrounds

@@ -1,6 +1,7 @@
 -- `relief::guarantee::outcome_after_cut` meets its contract: each ground that does not apply leaves the later ones. Assumes nothing.
 use Prim.Native.Nat.{ℕ, _≤_, _<_}
 use mathlib.Core.Path.{_≡_, sym, _∙_}
+use native.Mathlib.Omega.{arith}
 use lib.ListN.{drop}
 use borrow.Author.Tests.{eq-eqb, ne-eqb, le-leb, lt-leb}
 use Rattle.base.specs.FirstMet.{firstOr}
@@ -87,14 +88,14 @@ returns-7 : tie.Need-returns-7
 unfolding guaranteeGrounds
 returns-7 c =
     let s = c .before .before .before .before .before .before .before .before .before .before .before .before .before in
-    let h : counterpartyWeightOf table2019 (s .args .terms) ≤ providerWeightOf table2019 (s .args .item) = rw (sym (s .pre .1 .0), sym (s .pre .1 .1)) (c .if7 .taken) in
+    let h : counterpartyWeightOf table2019 (s .args .terms) ≤ providerWeightOf table2019 (s .args .item) = omega (arith, s .pre .1 .0, s .pre .1 .1, c .if7 .taken) in
     sym (past-6 (c .before) ∙ first-given _ _ _ _ (le-leb _ _ h))
 
 past-7 : (c : tie.Else7) → let a = c .before .before .before .before .before .before .before .before .before .before .before .before .before .args in Past (a .terms) (a .item) 7
 unfolding guaranteeGrounds
 past-7 c =
     let s = c .before .before .before .before .before .before .before .before .before .before .before .before .before in
-    let h : providerWeightOf table2019 (s .args .item) < counterpartyWeightOf table2019 (s .args .terms) = rw (sym (s .pre .1 .0), sym (s .pre .1 .1)) (c .if7 .left) in
+    let h : providerWeightOf table2019 (s .args .item) < counterpartyWeightOf table2019 (s .args .terms) = omega (arith, s .pre .1 .0, s .pre .1 .1, c .if7 .left) in
     past-6 (c .before) ∙ first-later _ _ _ _ (lt-leb _ _ h)
 
 returns-8 : tie.Need-returns-8

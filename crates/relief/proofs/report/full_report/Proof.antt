@@ -151,7 +151,7 @@ weighted-requires c κs =
     let cs = countedCollateral (s .args .collateral) in
     let low = mul-le-mul (rw (exposure-is (w .before)) at (exposure-low (w .before))) (rw (w .counterparty-weight .ensures) at (weight-low w)) in
     let bound = weighted-bound (counterpartyWeightOf table2019 t) (exposureAfter table2019 t cs) (pieces s) (all-lighter table2019 t (countedGuarantees (s .args .guarantees))) in
-    rw (ap (λ x. x .«weighted_sum») (cover-is o)) (le-trans bound low)
+    omega (arith, ap (λ x. x .«weighted_sum») (cover-is o), bound, low)
 
 returns : tie.Need-returns
 unfolding fullReport weightedAmount

@@ -1,0 +1,117 @@
+-- Reports at some edges, computed: the order of the grounds, and what a misreading would change. Assumes nothing.
+use Prim.Native.Nat.{ℕ}
+use mathlib.Core.Path.{_≡_, refl}
+use mathlib.Core.List.{List, [], _∷_, map}
+use lib.ListN.{take}
+use Rattle.deal.specs.Terms.{termsOf}
+use Rattle.deal.specs.Deals.{dealWith}
+use Rattle.deal.specs.declared.terms.Terms.{Terms}
+use Rattle.deal.specs.declared.collateral.Collateral.{Collateral}
+use Rattle.deal.specs.declared.guarantee.Guarantee.{Guarantee}
+use Rattle.relief.specs.Outcomes.{outcomeValue, outcomeGround}
+use Rattle.relief.specs.Report.{reportOf}
+use Rattle.relief.proofs.Computed.{computed}
+
+-- secured lending in cash to a corporate at this step, for 1,800 days
+abbrev loan : ℕ → Terms
+loan step = termsOf 10000 3 step 978 3 1 1800 1 0 0
+
+-- goods, step, issue life; residual and original term; lawful, unrelated, unreflected
+abbrev pledge : ℕ → ℕ → ℕ → ℕ → ℕ → ℕ → ℕ → ℕ → Collateral
+pledge goods step life residual original lawful unrelated unreflected = record {
+  amount = 9000;
+  asset = record { goods = goods; step = step; life = life };
+  currency = 978;
+  residual = residual;
+  original = original;
+  lawful = lawful;
+  unrelated = unrelated;
+  unreflected = unreflected;
+  listed = 0;
+}
+
+-- class of an unrated provider, currency; residual and original term; lawful, direct, unreflected
+abbrev guarantee : ℕ → ℕ → ℕ → ℕ → ℕ → ℕ → ℕ → Guarantee
+guarantee class currency residual original lawful direct unreflected = record {
+  amount = 9000;
+  provider = record { class = class; step = 0 };
+  currency = currency;
+  residual = residual;
+  original = original;
+  lawful = lawful;
+  direct = direct;
+  unreflected = unreflected;
+}
+
+-- what is reported of the items
+abbrev collateralGrounds : Terms → List Collateral → ℕ → List ℕ
+collateralGrounds t cs n = map (λ r. outcomeGround (r .outcome)) (take n (reportOf (dealWith t cs []) .collateral))
+
+abbrev collateralValues : Terms → List Collateral → ℕ → List ℕ
+collateralValues t cs n = map (λ r. outcomeValue (r .outcome)) (take n (reportOf (dealWith t cs []) .collateral))
+
+abbrev guaranteeGrounds : Terms → List Guarantee → ℕ → List ℕ
+guaranteeGrounds t gs n = map (λ r. outcomeGround (r .outcome)) (take n (reportOf (dealWith t [] gs) .guarantees))
+
+abbrev guaranteeValues : Terms → List Guarantee → ℕ → List ℕ
+guaranteeValues t gs n = map (λ r. outcomeValue (r .outcome)) (take n (reportOf (dealWith t [] gs) .guarantees))
+
+-- every ground applies to the first item, and one less to each after it; the last is recognised
+abbrev pledges : List Collateral
+pledges =
+    pledge 6 0 400 90 359 0 0 0
+    ∷ pledge 6 0 400 90 359 1 0 0
+    ∷ pledge 6 0 400 90 359 1 1 0
+    ∷ pledge 6 0 400 90 359 1 1 1
+    ∷ pledge 1 0 0 90 359 1 1 1
+    ∷ pledge 1 0 0 90 360 1 1 1
+    ∷ pledge 1 0 0 91 360 1 1 1
+    ∷ []
+
+pub collateral-order : collateralGrounds (loan 0) pledges 7 ≡ 21 ∷ 22 ∷ 23 ∷ 24 ∷ 25 ∷ 26 ∷ 0 ∷ []
+unfolding computed
+collateral-order = refl
+
+-- to a corporate at step 1, which weighs less than an unrated bank
+abbrev guarantees : List Guarantee
+guarantees =
+    guarantee 3 978 90 359 0 0 0
+    ∷ guarantee 3 978 90 359 1 0 0
+    ∷ guarantee 3 978 90 359 1 1 0
+    ∷ guarantee 3 978 90 359 1 1 1
+    ∷ guarantee 2 978 90 359 1 1 1
+    ∷ guarantee 2 978 90 360 1 1 1
+    ∷ guarantee 2 978 91 360 1 1 1
+    ∷ []
+
+pub guarantee-order : guaranteeGrounds (loan 1) guarantees 7 ≡ 21 ∷ 27 ∷ 23 ∷ 28 ∷ 25 ∷ 26 ∷ 29 ∷ []
+unfolding computed
+guarantee-order = refl
+
+-- the term of the pledge counts, and not the bond's life
+pub bond-value : collateralValues (loan 0) (pledge 2 1 1801 900 900 1 1 1 ∷ []) 1 ≡ 4021 ∷ []
+unfolding computed
+bond-value = refl
+
+-- the currency haircut of a guarantee has a period of its own: 80000, and not 113138 as for collateral
+pub guarantee-value : guaranteeValues (loan 0) (guarantee 2 840 1800 1800 1 1 1 ∷ []) 1 ≡ 8280 ∷ []
+unfolding computed
+guarantee-value = refl
+
+-- E* is never above the amount: 100 of other listed equity lent, raised to 125, less 10 of cash
+abbrev ten : Collateral
+ten = record {
+  amount = 10;
+  asset = record { goods = 1; step = 0; life = 0 };
+  currency = 978;
+  residual = 1800;
+  original = 1800;
+  lawful = 1;
+  unrelated = 1;
+  unreflected = 1;
+  listed = 0;
+}
+
+pub capped : reportOf (dealWith (termsOf 100 3 0 978 1 6 1800 8 0 0) (ten ∷ []) []) .exposure ≡ 100
+unfolding computed
+capped = refl
