@@ -1,3 +1,4 @@
+pub mod EveryKind
 pub mod Views
 pub mod Steps
 pub mod Theorem

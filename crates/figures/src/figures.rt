@@ -27,6 +27,7 @@ pub fn print() {
     scaling();
     matched();
     mismatched();
+    roundings();
     abroad();
     exposures();
     amounts();
@@ -113,6 +114,9 @@ fn mismatched() {
         b"cash 1000000, term 300 of 600",
         recognised(1_000_000, 0, 300, 600),
     );
+}
+
+fn roundings() {
     // Both roundings, haircut first: 886, then 419, where one rounding would leave 420; 31, then 14, where the mismatch
     // first, or one rounding, would leave 15.
     figure(

@@ -9,7 +9,6 @@ use Rattle.base.proofs.FirstMet.{NoneMet, EachGives, none-given, first-holds, g
 use Rattle.relief.specs.declared.outcome.Outcome.{Outcome}
 use Rattle.relief.specs.declared.outcome.Outcome.the-variants.{Valued, LeftOut}
 use Rattle.relief.specs.Outcomes.{outcomeValue, outcomeGround}
-
 -- the computed cases are checked before the laws
 use Rattle.relief.proofs.Cases.{collateral-order, guarantee-order, guarantee-value}
 

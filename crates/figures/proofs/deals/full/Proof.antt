@@ -1,6 +1,6 @@
 -- `figures::deals::full` meets its contract. Assumes nothing.
 use Prim.Native.Nat.{_-_, _≤_}
-use Rattle.base.proofs.Tests.{tests}
+use native.Mathlib.Omega.{arith}
 use Rattle.figures.proofs.deals.full.Statement.{statement}
 use Rattle.figures.proofs.deals.full.Tie as tie
 
@@ -14,34 +14,34 @@ opened-requires : tie.Need-opened-requires Inv-loop μ-loop
 opened-requires c κs = tt
 
 loop-holds : tie.Need-loop-holds Inv-loop μ-loop
-loop-holds c = search tests
+loop-holds c = omega arith
 
 pledged-requires : tie.Need-pledged-requires Inv-loop μ-loop
 pledged-requires c κs = tt
 
 add-t9 : tie.Need-add-t9 Inv-loop μ-loop
-add-t9 c = search tests
+add-t9 c = omega arith
 
 add-t11 : tie.Need-add-t11 Inv-loop μ-loop
-add-t11 c = search tests
+add-t11 c = omega arith
 
 guaranteed-requires : tie.Need-guaranteed-requires Inv-loop μ-loop
 guaranteed-requires c κs = tt
 
 add-i : tie.Need-add-i Inv-loop μ-loop
-add-i c = search tests
+add-i c = omega arith
 
 loop-less : tie.Need-loop-less Inv-loop μ-loop
-loop-less c = search tests
+loop-less c = omega arith
 
 loop-again : tie.Need-loop-again Inv-loop μ-loop
-loop-again c = search tests
+loop-again c = omega arith
 
 reported-requires : tie.Need-reported-requires Inv-loop μ-loop
 reported-requires c κs = tt
 
 returns : tie.Need-returns Inv-loop μ-loop
-returns c = search tests
+returns c = tt
 
 pub full-spec : {M : Type 1} → statement M
 full-spec =

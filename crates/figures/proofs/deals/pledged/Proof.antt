@@ -1,6 +1,6 @@
 -- `figures::deals::pledged` meets its contract. Assumes nothing.
 use Prim.Native.Nat.{_-_, _≤_}
-use Rattle.base.proofs.Tests.{tests}
+use native.Mathlib.Omega.{arith}
 use Rattle.figures.proofs.deals.pledged.Statement.{statement}
 use Rattle.figures.proofs.deals.pledged.Tie as tie
 
@@ -11,70 +11,70 @@ abbrev μ-loop : tie.MeasureT-loop
 μ-loop d f k₀ k = 12 - k
 
 slice-aggregate-text : tie.Need-slice-aggregate-text Inv-loop μ-loop
-slice-aggregate-text c = search tests
+slice-aggregate-text c = omega arith
 
 text-requires : tie.Need-text-requires Inv-loop μ-loop
 text-requires c κs = tt
 
 loop-holds : tie.Need-loop-holds Inv-loop μ-loop
-loop-holds c = search tests
+loop-holds c = omega arith
 
 mul-number : tie.Need-mul-number Inv-loop μ-loop
-mul-number c = search tests
+mul-number c = omega arith
 
 array-read-number : tie.Need-array-read-number Inv-loop μ-loop
-array-read-number c = search tests
+array-read-number c = omega arith
 
 number-requires : tie.Need-number-requires Inv-loop μ-loop
 number-requires c κs = tt
 
 add-k : tie.Need-add-k Inv-loop μ-loop
-add-k c = search tests
+add-k c = omega arith
 
 loop-less : tie.Need-loop-less Inv-loop μ-loop
-loop-less c = search tests
+loop-less c = omega arith
 
 loop-again : tie.Need-loop-again Inv-loop μ-loop
-loop-again c = search tests
+loop-again c = omega arith
 
 array-read-t18 : tie.Need-array-read-t18 Inv-loop μ-loop
-array-read-t18 c = search tests
+array-read-t18 c = omega arith
 
 array-read-t21 : tie.Need-array-read-t21 Inv-loop μ-loop
-array-read-t21 c = search tests
+array-read-t21 c = omega arith
 
 array-read-t24 : tie.Need-array-read-t24 Inv-loop μ-loop
-array-read-t24 c = search tests
+array-read-t24 c = omega arith
 
 array-read-t27 : tie.Need-array-read-t27 Inv-loop μ-loop
-array-read-t27 c = search tests
+array-read-t27 c = omega arith
 
 array-read-t31 : tie.Need-array-read-t31 Inv-loop μ-loop
-array-read-t31 c = search tests
+array-read-t31 c = omega arith
 
 array-read-t34 : tie.Need-array-read-t34 Inv-loop μ-loop
-array-read-t34 c = search tests
+array-read-t34 c = omega arith
 
 array-read-t37 : tie.Need-array-read-t37 Inv-loop μ-loop
-array-read-t37 c = search tests
+array-read-t37 c = omega arith
 
 array-read-t40 : tie.Need-array-read-t40 Inv-loop μ-loop
-array-read-t40 c = search tests
+array-read-t40 c = omega arith
 
 array-read-t43 : tie.Need-array-read-t43 Inv-loop μ-loop
-array-read-t43 c = search tests
+array-read-t43 c = omega arith
 
 array-read-t46 : tie.Need-array-read-t46 Inv-loop μ-loop
-array-read-t46 c = search tests
+array-read-t46 c = omega arith
 
 array-read-t49 : tie.Need-array-read-t49 Inv-loop μ-loop
-array-read-t49 c = search tests
+array-read-t49 c = omega arith
 
 add-collateral-requires : tie.Need-add-collateral-requires Inv-loop μ-loop
 add-collateral-requires c κs = tt
 
 returns : tie.Need-returns Inv-loop μ-loop
-returns c = search tests
+returns c = tt
 
 pub pledged-spec : {M : Type 1} → statement M
 pledged-spec =

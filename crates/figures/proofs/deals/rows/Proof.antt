@@ -1,23 +1,23 @@
 -- `figures::deals::rows` meets its contract. Assumes nothing.
 use Prim.Native.Nat.{_-_, _≤_}
-use Rattle.base.proofs.Tests.{tests}
+use native.Mathlib.Omega.{arith}
 use Rattle.figures.proofs.deals.rows.Statement.{statement}
 use Rattle.figures.proofs.deals.rows.Tie as tie
 
 abbrev Inv-loop : tie.InvT-loop
-Inv-loop i₀ i = i ≤ 28
+Inv-loop i₀ i = i ≤ 39
 
 abbrev μ-loop : tie.MeasureT-loop
-μ-loop i₀ i = 28 - i
+μ-loop i₀ i = 39 - i
 
 loop-holds : tie.Need-loop-holds Inv-loop μ-loop
-loop-holds c = search tests
+loop-holds c = omega arith
 
 mul-opened : tie.Need-mul-opened Inv-loop μ-loop
-mul-opened c = search tests
+mul-opened c = omega arith
 
 array-copy-out-opened : tie.Need-array-copy-out-opened Inv-loop μ-loop
-array-copy-out-opened c = search tests
+array-copy-out-opened c = omega arith
 
 opened-requires : tie.Need-opened-requires Inv-loop μ-loop
 opened-requires c κs = tt
@@ -32,16 +32,16 @@ reported-requires : tie.Need-reported-requires Inv-loop μ-loop
 reported-requires c κs = tt
 
 add-i : tie.Need-add-i Inv-loop μ-loop
-add-i c = search tests
+add-i c = omega arith
 
 loop-less : tie.Need-loop-less Inv-loop μ-loop
-loop-less c = search tests
+loop-less c = omega arith
 
 loop-again : tie.Need-loop-again Inv-loop μ-loop
-loop-again c = search tests
+loop-again c = omega arith
 
 returns : tie.Need-returns Inv-loop μ-loop
-returns c = search tests
+returns c = tt
 
 pub rows-spec : {M : Type 1} → statement M
 rows-spec =

@@ -1,41 +1,41 @@
 -- `figures::deals::with_guarantees` meets its contract. Assumes nothing.
 use Prim.Native.Nat.{_-_, _≤_}
-use Rattle.base.proofs.Tests.{tests}
+use native.Mathlib.Omega.{arith}
 use Rattle.figures.proofs.deals.with_guarantees.Statement.{statement}
 use Rattle.figures.proofs.deals.with_guarantees.Tie as tie
 
 abbrev Inv-loop : tie.InvT-loop
-Inv-loop row d₀ k₀ d k = k ≤ 33
+Inv-loop row d₀ k₀ d k = k ≤ 51
 
 abbrev μ-loop : tie.MeasureT-loop
-μ-loop row d₀ k₀ d k = 33 - k
+μ-loop row d₀ k₀ d k = 51 - k
 
 loop-holds : tie.Need-loop-holds Inv-loop μ-loop
-loop-holds c = search tests
+loop-holds c = omega arith
 
 mul-f : tie.Need-mul-f Inv-loop μ-loop
-mul-f c = search tests
+mul-f c = omega arith
 
 array-copy-out-f : tie.Need-array-copy-out-f Inv-loop μ-loop
-array-copy-out-f c = search tests
+array-copy-out-f c = omega arith
 
 array-read-if1 : tie.Need-array-read-if1 Inv-loop μ-loop
-array-read-if1 c = search tests
+array-read-if1 c = omega arith
 
 guaranteed-requires : tie.Need-guaranteed-requires Inv-loop μ-loop
 guaranteed-requires c κs = tt
 
 add-k : tie.Need-add-k Inv-loop μ-loop
-add-k c = search tests
+add-k c = omega arith
 
 loop-less : tie.Need-loop-less Inv-loop μ-loop
-loop-less c = search tests
+loop-less c = omega arith
 
 loop-again : tie.Need-loop-again Inv-loop μ-loop
-loop-again c = search tests
+loop-again c = omega arith
 
 returns : tie.Need-returns Inv-loop μ-loop
-returns c = search tests
+returns c = tt
 
 pub with-guarantees-spec : {M : Type 1} → statement M
 with-guarantees-spec =

@@ -1,6 +1,6 @@
 -- `figures::show::guarantees` meets its contract. Assumes nothing.
 use Prim.Native.Nat.{_-_, _≤_}
-use Rattle.base.proofs.Tests.{tests}
+use native.Mathlib.Omega.{arith}
 use Rattle.figures.proofs.show.guarantees.Statement.{statement}
 use Rattle.figures.proofs.show.guarantees.Tie as tie
 
@@ -11,28 +11,28 @@ abbrev μ-loop : tie.MeasureT-loop
 μ-loop count reports past₀ i₀ t10 t11 past i = 16 - i
 
 slice-aggregate-text : tie.Need-slice-aggregate-text Inv-loop μ-loop
-slice-aggregate-text c = search tests
+slice-aggregate-text c = omega arith
 
 text-requires : tie.Need-text-requires Inv-loop μ-loop
 text-requires c κs = tt
 
 loop-holds : tie.Need-loop-holds Inv-loop μ-loop
-loop-holds c = search tests
+loop-holds c = omega arith
 
 mul-report : tie.Need-mul-report Inv-loop μ-loop
-mul-report c = search tests
+mul-report c = omega arith
 
 array-copy-out-report : tie.Need-array-copy-out-report Inv-loop μ-loop
-array-copy-out-report c = search tests
+array-copy-out-report c = omega arith
 
 outcome-requires : tie.Need-outcome-requires Inv-loop μ-loop
 outcome-requires c κs = tt
 
 slice-aggregate-text-2 : tie.Need-slice-aggregate-text-2 Inv-loop μ-loop
-slice-aggregate-text-2 c = search tests
+slice-aggregate-text-2 c = omega arith
 
 text-requires-2 : tie.Need-text-requires-2 Inv-loop μ-loop
-text-requires-2 c κs = search tests
+text-requires-2 c κs = omega arith
 
 number-requires : tie.Need-number-requires Inv-loop μ-loop
 number-requires c κs = tt
@@ -44,34 +44,34 @@ ground-number-requires : tie.Need-ground-number-requires Inv-loop μ-loop
 ground-number-requires c κs = tt
 
 add-figures : tie.Need-add-figures Inv-loop μ-loop
-add-figures c = search tests
+add-figures c = omega arith
 
 add-past : tie.Need-add-past Inv-loop μ-loop
-add-past c = search tests
+add-past c = omega arith
 
 add-past-2 : tie.Need-add-past-2 Inv-loop μ-loop
-add-past-2 c = search tests
+add-past-2 c = omega arith
 
 add-i : tie.Need-add-i Inv-loop μ-loop
-add-i c = search tests
+add-i c = omega arith
 
 loop-less : tie.Need-loop-less Inv-loop μ-loop
-loop-less c = search tests
+loop-less c = omega arith
 
 loop-again : tie.Need-loop-again Inv-loop μ-loop
-loop-again c = search tests
+loop-again c = omega arith
 
 slice-aggregate-text-3 : tie.Need-slice-aggregate-text-3 Inv-loop μ-loop
-slice-aggregate-text-3 c = search tests
+slice-aggregate-text-3 c = omega arith
 
 text-requires-3 : tie.Need-text-requires-3 Inv-loop μ-loop
-text-requires-3 c κs = search tests
+text-requires-3 c κs = omega arith
 
 number-requires-2 : tie.Need-number-requires-2 Inv-loop μ-loop
-number-requires-2 c κs = search tests
+number-requires-2 c κs = omega arith
 
 returns : tie.Need-returns Inv-loop μ-loop
-returns c = search tests
+returns c = tt
 
 pub guarantees-spec : {M : Type 1} → statement M
 guarantees-spec =

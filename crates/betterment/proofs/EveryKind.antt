@@ -1,0 +1,120 @@
+-- Each kind of betterment in the paper's words, for every value and at any place of a list: no constructor is narrower. Assumes nothing.
+use Prim.Native.Nat.{ℕ, _≤_, _<_}
+use mathlib.Core.Path.{_≡_}
+use mathlib.Core.Bool.{true, false}
+use mathlib.Core.List.{List, [], _∷_, _++_}
+use Rattle.deal.specs.Deals.{accepted}
+use Rattle.deal.specs.declared.terms.Terms.{Terms}
+use Rattle.deal.specs.declared.collateral.Collateral.{Collateral}
+use Rattle.deal.specs.declared.guarantee.Guarantee.{Guarantee}
+use Rattle.deal.specs.declared.deal.Deal.{Deal}
+use Rattle.betterment.specs.Changes.{collateralAmount, collateralStep, collateralCurrency, collateralResidual, collateralOriginal, collateralLawful, collateralUnrelated, collateralUnreflected, collateralListed, guaranteeAmount, guaranteeStep, guaranteeCurrency, guaranteeResidual, guaranteeOriginal, guaranteeLawful, guaranteeDirect, guaranteeUnreflected, termsInterval, termsLentStep}
+use Rattle.betterment.specs.Views.{View, viewOf, acceptedView}
+use Rattle.betterment.specs.Betterments.{BetterCollateral, BetterGuarantee, BetterTerms, OneChanged, OneMore, Better, Betterments}
+
+-- at any place
+changed-at : {A : Type 0} (Change : A → A → Type 0) (front back : List A) (old new : A) → Change old new →
+    OneChanged Change (front ++ old ∷ back) (front ++ new ∷ back)
+changed-at Change [] back old new c = OneChanged.here c
+changed-at Change (x ∷ front) back old new c = OneChanged.later (changed-at Change front back old new c)
+
+more-at : {A : Type 0} (front back : List A) (item : A) → OneMore (front ++ back) (front ++ item ∷ back)
+more-at [] back item = OneMore.here
+more-at (x ∷ front) back item = OneMore.later (more-at front back item)
+
+abbrev view : Terms → List Collateral → List Guarantee → View
+view t cs gs = record { terms = t; collateral = cs; guarantees = gs }
+
+module _ (t : Terms) (gs : List Guarantee) (front back : List Collateral) (c : Collateral) where
+  -- from the item to another in its place
+  abbrev To : Collateral → Type 0
+  To c′ = Better (view t (front ++ c ∷ back) gs) (view t (front ++ c′ ∷ back) gs)
+
+  to : {c′ : Collateral} → BetterCollateral (t .currency) c c′ → To c′
+  to {c′} b = Better.better-collateral (changed-at (BetterCollateral (t .currency)) front back c c′ b)
+
+  -- "a higher amount, residual term or original term of an item"
+  pub collateral-amount : (new : ℕ) → c .amount < new → To (collateralAmount c new)
+  collateral-amount new h = to (BetterCollateral.higher-amount new h)
+
+  pub collateral-residual : (new : ℕ) → c .residual < new → To (collateralResidual c new)
+  collateral-residual new h = to (BetterCollateral.higher-residual new h)
+
+  pub collateral-original : (new : ℕ) → c .original < new → To (collateralOriginal c new)
+  collateral-original new h = to (BetterCollateral.higher-original new h)
+
+  -- "a smaller step, old and new both 1 to 6, of an item"
+  pub collateral-step : (new : ℕ) → 1 ≤ new → new < c .asset .step → c .asset .step ≤ 6 → To (collateralStep c new)
+  collateral-step new one less six = to (BetterCollateral.smaller-step new (one, (less, six)))
+
+  -- "an item's currency made the deal's"
+  pub collateral-currency : To (collateralCurrency c (t .currency))
+  collateral-currency = to BetterCollateral.deal-currency
+
+  -- "an item's condition from 0 to 1"
+  pub collateral-lawful : c .lawful ≡ 0 → To (collateralLawful c 1)
+  collateral-lawful e = to (BetterCollateral.now-lawful e)
+
+  pub collateral-unrelated : c .unrelated ≡ 0 → To (collateralUnrelated c 1)
+  collateral-unrelated e = to (BetterCollateral.now-unrelated e)
+
+  pub collateral-unreflected : c .unreflected ≡ 0 → To (collateralUnreflected c 1)
+  collateral-unreflected e = to (BetterCollateral.now-unreflected e)
+
+  pub collateral-listed : c .listed ≡ 0 → To (collateralListed c 1)
+  collateral-listed e = to (BetterCollateral.now-listed e)
+
+  -- "one more item, anywhere in its list"
+  pub collateral-more : Better (view t (front ++ back) gs) (view t (front ++ c ∷ back) gs)
+  collateral-more = Better.more-collateral (more-at front back c)
+
+module _ (t : Terms) (cs : List Collateral) (front back : List Guarantee) (g : Guarantee) where
+  abbrev GuaranteeTo : Guarantee → Type 0
+  GuaranteeTo g′ = Better (view t cs (front ++ g ∷ back)) (view t cs (front ++ g′ ∷ back))
+
+  guarantee-to : {g′ : Guarantee} → BetterGuarantee (t .currency) g g′ → GuaranteeTo g′
+  guarantee-to {g′} b = Better.better-guarantee (changed-at (BetterGuarantee (t .currency)) front back g g′ b)
+
+  pub guarantee-amount : (new : ℕ) → g .amount < new → GuaranteeTo (guaranteeAmount g new)
+  guarantee-amount new h = guarantee-to (BetterGuarantee.higher-amount new h)
+
+  pub guarantee-residual : (new : ℕ) → g .residual < new → GuaranteeTo (guaranteeResidual g new)
+  guarantee-residual new h = guarantee-to (BetterGuarantee.higher-residual new h)
+
+  pub guarantee-original : (new : ℕ) → g .original < new → GuaranteeTo (guaranteeOriginal g new)
+  guarantee-original new h = guarantee-to (BetterGuarantee.higher-original new h)
+
+  pub guarantee-step : (new : ℕ) → 1 ≤ new → new < g .provider .step → g .provider .step ≤ 6 → GuaranteeTo (guaranteeStep g new)
+  guarantee-step new one less six = guarantee-to (BetterGuarantee.smaller-step new (one, (less, six)))
+
+  pub guarantee-currency : GuaranteeTo (guaranteeCurrency g (t .currency))
+  guarantee-currency = guarantee-to BetterGuarantee.deal-currency
+
+  pub guarantee-lawful : g .lawful ≡ 0 → GuaranteeTo (guaranteeLawful g 1)
+  guarantee-lawful e = guarantee-to (BetterGuarantee.now-lawful e)
+
+  pub guarantee-direct : g .direct ≡ 0 → GuaranteeTo (guaranteeDirect g 1)
+  guarantee-direct e = guarantee-to (BetterGuarantee.now-direct e)
+
+  pub guarantee-unreflected : g .unreflected ≡ 0 → GuaranteeTo (guaranteeUnreflected g 1)
+  guarantee-unreflected e = guarantee-to (BetterGuarantee.now-unreflected e)
+
+  pub guarantees-more : Better (view t cs (front ++ back)) (view t cs (front ++ g ∷ back))
+  guarantees-more = Better.more-guarantees (more-at front back g)
+
+module _ (t : Terms) (cs : List Collateral) (gs : List Guarantee) where
+  -- "a smaller step .. of the goods lent"
+  pub lent-step : (new : ℕ) → 1 ≤ new → new < t .lent .step → t .lent .step ≤ 6 → Better (view t cs gs) (view (termsLentStep t new) cs gs)
+  lent-step new one less six = Better.better-terms (BetterTerms.smaller-lent-step new (one, (less, six)))
+
+  -- "a smaller interval"
+  pub interval : (new : ℕ) → new < t .interval → Better (view t cs gs) (view (termsInterval t new) cs gs)
+  interval new h = Better.better-terms (BetterTerms.smaller-interval new h)
+
+-- one betterment from a deal to any accepted record with the fields and items proposed, however it holds them
+pub any-record : (d d′ : Deal) → Better (viewOf d) (viewOf d′) → accepted d′ ≡ true → Betterments d d′
+any-record d d′ b e = Betterments.made b e Betterments.no-more
+
+-- one refused
+pub any-refused : (d : Deal) (v : View) → Better (viewOf d) v → acceptedView v ≡ false → Betterments d d
+any-refused d v b e = Betterments.refused v b e Betterments.no-more
