@@ -3,6 +3,7 @@ use Prim.Native.Nat.{ℕ, _≤_, _<_}
 use mathlib.Core.Path.{_≡_}
 use mathlib.Core.Bool.{true, false}
 use mathlib.Core.List.{List, [], _∷_, _++_}
+use native.Mathlib.Omega.{arith}
 use Rattle.deal.specs.Deals.{accepted}
 use Rattle.deal.specs.declared.terms.Terms.{Terms}
 use Rattle.deal.specs.declared.collateral.Collateral.{Collateral}
@@ -45,7 +46,7 @@ module _ (t : Terms) (gs : List Guarantee) (front back : List Collateral) (c : C
 
   -- "a smaller step, old and new both 1 to 6, of an item"
   pub collateral-step : (new : ℕ) → 1 ≤ new → new < c .asset .step → c .asset .step ≤ 6 → To (collateralStep c new)
-  collateral-step new one less six = to (BetterCollateral.smaller-step new (one, (less, six)))
+  collateral-step new one less six = to (BetterCollateral.smaller-step new (omega arith))
 
   -- "an item's currency made the deal's"
   pub collateral-currency : To (collateralCurrency c (t .currency))
@@ -85,7 +86,7 @@ module _ (t : Terms) (cs : List Collateral) (front back : List Guarantee) (g : G
   guarantee-original new h = guarantee-to (BetterGuarantee.higher-original new h)
 
   pub guarantee-step : (new : ℕ) → 1 ≤ new → new < g .provider .step → g .provider .step ≤ 6 → GuaranteeTo (guaranteeStep g new)
-  guarantee-step new one less six = guarantee-to (BetterGuarantee.smaller-step new (one, (less, six)))
+  guarantee-step new one less six = guarantee-to (BetterGuarantee.smaller-step new (omega arith))
 
   pub guarantee-currency : GuaranteeTo (guaranteeCurrency g (t .currency))
   guarantee-currency = guarantee-to BetterGuarantee.deal-currency
@@ -105,7 +106,7 @@ module _ (t : Terms) (cs : List Collateral) (front back : List Guarantee) (g : G
 module _ (t : Terms) (cs : List Collateral) (gs : List Guarantee) where
   -- "a smaller step .. of the goods lent"
   pub lent-step : (new : ℕ) → 1 ≤ new → new < t .lent .step → t .lent .step ≤ 6 → Better (view t cs gs) (view (termsLentStep t new) cs gs)
-  lent-step new one less six = Better.better-terms (BetterTerms.smaller-lent-step new (one, (less, six)))
+  lent-step new one less six = Better.better-terms (BetterTerms.smaller-lent-step {t = t} new (omega arith))
 
   -- "a smaller interval"
   pub interval : (new : ℕ) → new < t .interval → Better (view t cs gs) (view (termsInterval t new) cs gs)

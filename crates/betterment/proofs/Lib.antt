@@ -1,5 +1,5 @@
-pub mod EveryKind
 pub mod Views
 pub mod Steps
 pub mod Theorem
+pub mod EveryKind
 pub mod Examples

@@ -22,7 +22,7 @@ use Rattle.betterment.proofs.Views.{FitsView, view-fits, collateralFits
 
 -- a smaller step is a better one
 smaller : {old new : ℕ} → SmallerStep old new → SameOrBetter old new
-smaller s = inr (s .0, (omega arith, s .1 .1))
+smaller s = inr (omega arith)
 
 -- Terms
 
