@@ -9,18 +9,7 @@ use lib.ListN.{length, take, drop, set, getD, replicate}
 use lib.Seq.{take-append-seam}
 use Rattle.base.specs.Places.{inPlaces}
 
--- one place more is filled, from the same place of a list
-module _ {A : Type 0} (d : A) where
-  copied : (n : ℕ) (xs zs : List A) → n < length xs → n < length zs → set (take n xs ++ drop n zs) n (getD xs n d) ≡ take (suc n) xs ++ drop (suc n) zs
-  copied n [] zs h k = absurd (not-suc-le-zero h)
-  copied n (x ∷ xs) [] h k = absurd (not-suc-le-zero k)
-  copied zero (x ∷ xs) (z ∷ zs) h k = refl
-  copied (suc n) (x ∷ xs) (z ∷ zs) h k = ap (λ (l : List A). x ∷ l) (copied n xs zs (le-of-suc-le-suc h) (le-of-suc-le-suc k))
-
-  pub copy-more : (n : ℕ) (xs zs : List A) → n < length xs → n < length zs → set (take n xs ++ drop n zs) n (getD xs n d) ≡ take (n + 1) xs ++ drop (n + 1) zs
-  copy-more n xs zs h k = rw add-one (copied n xs zs h k)
-
--- by f of what stands there
+-- one place more is filled, by f of what stands in the same place of a list
 module _ {A B : Type 0} (f : A → B) (d : A) where
   filled : (n : ℕ) (xs : List A) (zs : List B) → n < length xs → n < length zs →
       set (map f (take n xs) ++ drop n zs) n (f (getD xs n d)) ≡ map f (take (suc n) xs) ++ drop (suc n) zs
@@ -55,10 +44,7 @@ length-zip f [] ys e = refl
 length-zip f (x ∷ xs) [] e = absurd (omega (arith, e))
 length-zip f (x ∷ xs) (y ∷ ys) e = ap suc (length-zip f xs ys (omega (arith, e)))
 
--- before the loop, and after it
-pub unplaced : {A : Type 0} (places : ℕ) (none : A) → replicate places none ≡ inPlaces places none []
-unplaced places none = refl
-
+-- after the loop
 pub placed : {A : Type 0} (places n : ℕ) (none : A) (ys : List A) → length ys ≡ n → ys ++ drop n (replicate places none) ≡ inPlaces places none ys
 placed places n none ys e = rw e
 

@@ -4,8 +4,8 @@ use mathlib.Core.Path.{_≡_, refl, ap}
 use mathlib.Core.List.{List, [], _∷_, _++_, map}
 use native.Mathlib.Numerals.{add-one}
 use native.Mathlib.Omega.{arith}
-use lib.ListN.{length, take, drop, getD, drop-of-length-le}
-use lib.Seq.{drop-cons, take-suc}
+use lib.ListN.{length, take, getD}
+use lib.Seq.{take-suc}
 use Rattle.base.specs.Sum.{sumOf}
 
 module _ {A : Type 0} (f : A → ℕ) where
@@ -14,16 +14,7 @@ module _ {A : Type 0} (f : A → ℕ) where
   sum-append [] ys = omega arith
   sum-append (x ∷ xs) ys = omega (arith, sum-append xs ys)
 
-  -- of what a loop has yet to pass: one element less, and at the end nothing
-  pub sum-more : (xs : List A) (i : ℕ) (d : A) → i < length xs → sumOf f (drop i xs) ≡ f (getD xs i d) + sumOf f (drop (i + 1) xs)
-  unfolding sumOf
-  sum-more xs i d h = rw (add-one i, drop-cons xs i d)
-
-  pub sum-end : (xs : List A) (i : ℕ) → length xs ≤ i → sumOf f (drop i xs) ≡ 0
-  unfolding sumOf
-  sum-end xs i h = rw (drop-of-length-le xs h)
-
-  -- of what it has passed: one element more
+  -- of what a loop has passed: one element more
   pub sum-take : (xs : List A) (i : ℕ) (d : A) → i < length xs → sumOf f (take (i + 1) xs) ≡ sumOf f (take i xs) + f (getD xs i d)
   unfolding sumOf
   sum-take xs i d h = rw (add-one i, take-suc xs i d) (omega (arith, sum-append (take i xs) (getD xs i d ∷ [])))

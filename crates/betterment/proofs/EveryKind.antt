@@ -36,13 +36,13 @@ module _ (t : Terms) (gs : List Guarantee) (front back : List Collateral) (c : C
 
   -- "a higher amount, residual term or original term of an item"
   pub collateral-amount : (new : ℕ) → c .amount < new → To (collateralAmount c new)
-  collateral-amount new h = to (BetterCollateral.higher-amount new h)
+  collateral-amount new h = to (BetterCollateral.higher-amount new (omega arith))
 
   pub collateral-residual : (new : ℕ) → c .residual < new → To (collateralResidual c new)
-  collateral-residual new h = to (BetterCollateral.higher-residual new h)
+  collateral-residual new h = to (BetterCollateral.higher-residual new (omega arith))
 
   pub collateral-original : (new : ℕ) → c .original < new → To (collateralOriginal c new)
-  collateral-original new h = to (BetterCollateral.higher-original new h)
+  collateral-original new h = to (BetterCollateral.higher-original new (omega arith))
 
   -- "a smaller step, old and new both 1 to 6, of an item"
   pub collateral-step : (new : ℕ) → 1 ≤ new → new < c .asset .step → c .asset .step ≤ 6 → To (collateralStep c new)
@@ -77,13 +77,13 @@ module _ (t : Terms) (cs : List Collateral) (front back : List Guarantee) (g : G
   guarantee-to {g′} b = Better.better-guarantee (changed-at (BetterGuarantee (t .currency)) front back g g′ b)
 
   pub guarantee-amount : (new : ℕ) → g .amount < new → GuaranteeTo (guaranteeAmount g new)
-  guarantee-amount new h = guarantee-to (BetterGuarantee.higher-amount new h)
+  guarantee-amount new h = guarantee-to (BetterGuarantee.higher-amount new (omega arith))
 
   pub guarantee-residual : (new : ℕ) → g .residual < new → GuaranteeTo (guaranteeResidual g new)
-  guarantee-residual new h = guarantee-to (BetterGuarantee.higher-residual new h)
+  guarantee-residual new h = guarantee-to (BetterGuarantee.higher-residual new (omega arith))
 
   pub guarantee-original : (new : ℕ) → g .original < new → GuaranteeTo (guaranteeOriginal g new)
-  guarantee-original new h = guarantee-to (BetterGuarantee.higher-original new h)
+  guarantee-original new h = guarantee-to (BetterGuarantee.higher-original new (omega arith))
 
   pub guarantee-step : (new : ℕ) → 1 ≤ new → new < g .provider .step → g .provider .step ≤ 6 → GuaranteeTo (guaranteeStep g new)
   guarantee-step new one less six = guarantee-to (BetterGuarantee.smaller-step new (omega arith))
@@ -110,7 +110,7 @@ module _ (t : Terms) (cs : List Collateral) (gs : List Guarantee) where
 
   -- "a smaller interval"
   pub interval : (new : ℕ) → new < t .interval → Better (view t cs gs) (view (termsInterval t new) cs gs)
-  interval new h = Better.better-terms (BetterTerms.smaller-interval new h)
+  interval new h = Better.better-terms (BetterTerms.smaller-interval {t = t} new (omega arith))
 
 -- one betterment from a deal to any accepted record with the fields and items proposed, however it holds them
 pub any-record : (d d′ : Deal) → Better (viewOf d) (viewOf d′) → accepted d′ ≡ true → Betterments d d′

@@ -172,6 +172,3 @@ module _ (l : GuaranteeList) (e : guaranteeListAllowed l ≡ true) where
   pub guarantee-taken : (i : ℕ) (d : Guarantee) → i < l .count → i < length (l .items) → guaranteeRefusal (getD (l .items) i d) ≡ 0
   unfolding guaranteeListAllowed
   guarantee-taken i d h k = eqb-true _ 0 (all-at (λ x. eqb (guaranteeRefusal x) 0) (l .count) i (l .items) d h k (both (leb (l .count) 16) _ e .1))
-
-  pub guarantee-at : (i : ℕ) (d : Guarantee) → i < l .count → i < length (l .items) → PlainGuarantee (getD (l .items) i d)
-  guarantee-at i d h k = plain-guarantee _ (guarantee-taken i d h k)
