@@ -1,0 +1,75 @@
+-- Laws of a book's refusals. Assumes nothing.
+use Prim.Native.Nat.{ℕ, _*_}
+use mathlib.Core.Path.{_≡_, refl, sym, _∙_, ap}
+use mathlib.Core.Bool.{Bool, true, false, not, _&&_}
+use mathlib.Core.List.{List, [], _∷_}
+use lib.Dec.{eqb}
+use lib.ListN.{length, take, drop}
+use Rattle.base.specs.All.{all}
+use Rattle.base.specs.Choice.{if_then_else_}
+use Rattle.base.proofs.Choice.{if-true, if-false}
+use Rattle.base.proofs.FirstMet.{NoneMet, none-exactly}
+use Rattle.text.specs.Text.{firstLine, linesOf}
+use Rattle.text.proofs.Lines.{lines-first, no-lines}
+use Rattle.book.specs.Deals.{opensDeal}
+use Rattle.book.specs.Answers.{answersFrom}
+use Rattle.book.specs.Working.{ownFirst}
+use Rattle.book.specs.Book.{bookTests, bookRefusal, dealsOf, answeredDeals, refusedReply, bookReply, overwrite, resultsAfter}
+use Rattle.book.specs.declared.reply.Reply.{Reply}
+use Rattle.book.proofs.Grouping.{opens-first}
+use Rattle.book.proofs.Answering.{no-answers}
+
+-- the first line behind the header opens no deal
+pub second-wrong : (text : List ℕ) → not (all (take 1 (linesOf text)) opensDeal) ≡ ownFirst text
+unfolding ownFirst
+second-wrong [] = ap (λ ls. not (all (take 1 ls) opensDeal)) no-lines
+second-wrong (b ∷ bs) =
+    ap (λ ls. not (all (take 1 ls) opensDeal)) (lines-first b bs) ∙ go (opensDeal (firstLine (b ∷ bs))) (opensDeal (b ∷ bs)) (opens-first (b ∷ bs))
+  where
+    go : (t u : Bool) → t ≡ u → not (t && true) ≡ not u
+    go true u e = ap not e
+    go false u e = ap not e
+
+module _ (book : List ℕ) (places : ℕ) where
+  -- a refused book has no deals answered
+  pub none-answered : eqb (bookRefusal book places) 0 ≡ false → answeredDeals book places ≡ []
+  unfolding answeredDeals
+  none-answered e = if-false _ _ _ e
+
+  pub all-answered : eqb (bookRefusal book places) 0 ≡ true → answeredDeals book places ≡ dealsOf book
+  unfolding answeredDeals
+  all-answered e = if-true _ _ _ e
+
+  pub refused-reply : (refusal : ℕ) → eqb refusal 0 ≡ false → bookRefusal book places ≡ refusal → bookReply book places ≡ refusedReply refusal
+  unfolding bookReply
+  refused-reply refusal h e =
+      let none = none-answered (ap (λ n. eqb n 0) e ∙ h) in
+      rw (e, none)
+
+  pub accepted-reply : bookRefusal book places ≡ 0 → bookReply book places ≡ record { refusal = 0; deals = length (dealsOf book) }
+  unfolding bookReply
+  accepted-reply e =
+      let every = all-answered (ap (λ n. eqb n 0) e) in
+      rw (e, every)
+
+  pub reply-refusal : bookReply book places .refusal ≡ bookRefusal book places
+  unfolding bookReply
+  reply-refusal = refl
+
+  -- an accepted book meets no test
+  pub accepted-tests : bookRefusal book places ≡ 0 → NoneMet (bookTests book places)
+  unfolding bookRefusal bookTests
+  accepted-tests e = none-exactly (bookTests book places) refl e
+
+-- the list after a refusal, and after none
+pub refused-results : (book before : List ℕ) → eqb (bookRefusal book (length before)) 0 ≡ false → resultsAfter book before ≡ before
+unfolding resultsAfter
+refused-results book before e =
+    let none = none-answered book (length before) e in
+    rw (none, no-answers)
+
+pub accepted-results : (book before : List ℕ) → bookRefusal book (length before) ≡ 0 → resultsAfter book before ≡ overwrite (answersFrom 1 (dealsOf book)) before
+unfolding resultsAfter
+accepted-results book before e =
+    let every = all-answered book (length before) (ap (λ n. eqb n 0) e) in
+    rw every

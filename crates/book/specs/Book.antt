@@ -1,0 +1,60 @@
+-- Answering a book. 01: The four operations, Answering a book; The book
+use Prim.Native.Nat.{ℕ, _*_}
+use mathlib.Core.Bool.{Bool, not}
+use mathlib.Core.List.{List, [], _∷_, _++_}
+use lib.Dec.{eqb, ltb}
+use lib.ListN.{drop, length, take}
+use Rattle.base.specs.All.{all}
+use Rattle.base.specs.Choice.{if_then_else_}
+use Rattle.base.specs.FirstMet.{Test, _when_, firstMet}
+use Rattle.text.specs.Text.{tab, lineFeed, startsWith, linesOf}
+use Rattle.book.specs.Deals.{DealLines, opensDeal, dealsFrom}
+use Rattle.book.specs.Answers.{answersFrom}
+use Rattle.book.specs.declared.reply.Reply.{Reply}
+
+-- "The first line is the five bytes C, R, M, tab, 1 and its line feed"
+abbrev pub header : List ℕ
+header = 67 ∷ 82 ∷ 77 ∷ tab ∷ 49 ∷ lineFeed ∷ []
+
+abbrev pub bookLimit : ℕ
+bookLimit = 65536
+
+-- the lines behind the header
+abbrev pub linesBehind : List ℕ → List (List ℕ)
+linesBehind book = linesOf (drop (length header) book)
+
+-- "(the header is line 1)", so the line behind it is line 2
+abbrev pub dealsOf : List ℕ → List DealLines
+dealsOf book = dealsFrom 2 (linesBehind book)
+
+-- "10 longer than 65,536 bytes; 9 first line wrong; 12 the second line exists and does not begin with D and a tab; 13 the lent results
+-- list has fewer than four 64-bit numbers per deal"
+unfoldable pub bookTests : List ℕ → ℕ → List (Test ℕ)
+bookTests book places =
+    10 when ltb bookLimit (length book)
+    ∷ 9 when not (startsWith header book)
+    ∷ 12 when not (all (take 1 (linesBehind book)) opensDeal)
+    ∷ 13 when ltb places (4 * length (dealsOf book))
+    ∷ []
+
+unfoldable pub bookRefusal : List ℕ → ℕ → ℕ
+bookRefusal book places = firstMet (bookTests book places)
+
+-- the deals that are answered: none of a refused book
+unfoldable pub answeredDeals : List ℕ → ℕ → List DealLines
+answeredDeals book places = if eqb (bookRefusal book places) 0 then dealsOf book else []
+
+abbrev pub refusedReply : ℕ → Reply
+refusedReply refusal = record { refusal = refusal; deals = 0 }
+
+-- ANSWERING A BOOK. "The reply is the refusal, or 0, and the count of deals written"
+unfoldable pub bookReply : List ℕ → ℕ → Reply
+bookReply book places = record { refusal = bookRefusal book places; deals = length (answeredDeals book places) }
+
+-- "written from the front and nothing behind them"
+abbrev pub overwrite : List ℕ → List ℕ → List ℕ
+overwrite answers before = answers ++ drop (length answers) before
+
+-- the results list afterwards: "four numbers a deal"; refusals "leave the list untouched"
+unfoldable pub resultsAfter : List ℕ → List ℕ → List ℕ
+resultsAfter book before = overwrite (answersFrom 1 (answeredDeals book (length before))) before

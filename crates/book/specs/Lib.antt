@@ -1,0 +1,4 @@
+pub mod Answers
+pub mod Book
+pub mod Deals
+pub mod Working

@@ -1,0 +1,52 @@
+// Answering a book.
+ghost use mathlib.Core.Path.{_≡_};
+ghost use mathlib.Core.Bool.{false};
+ghost use Prim.Native.Nat.{_*_, _+_, _≤_};
+ghost use lib.ListN.{length};
+ghost use Rattle.text.specs.Text.{linesOf};
+ghost use Rattle.book.specs.Answers.{answersFrom};
+ghost use Rattle.book.specs.Book.{bookReply, overwrite, resultsAfter};
+ghost use Rattle.book.specs.Deals.{dealsFrom};
+ghost use Rattle.book.specs.Working.{ownFirst};
+use crate::reading::answer_deal;
+use crate::reply::HEADER_BYTES;
+use crate::reply::Reply;
+use crate::reply::reply_to;
+use crate::results::put_answer;
+
+// The answers to the deals among a book's lines, from the front of the list.
+fn answer_deals(lines: &[u8], results: &mut [u64])
+    requires { ⌜ (ownFirst (now lines) ≡ false) × ((2 + length (now lines) ≤ 65536) × (4 * length (dealsFrom 2 (linesOf (now lines))) ≤ length (now results))) ⌝ }
+    ensures { λ _. ⌜ now (results .exit) ≡ overwrite (answersFrom 1 (dealsFrom 2 (linesOf (now (lines .entry))))) (now (results .entry)) ⌝ }
+{
+    let mut at: usize = 0;
+    let mut number: u64 = 2;
+    let mut deals: usize = 0;
+    while at < lines.len() {
+        let answer = answer_deal(&lines[at..], number);
+        put_answer(
+            results,
+            deals * 4,
+            deals as u64 + 1,
+            answer.refusal,
+            answer.figure,
+            answer.weighted,
+        );
+        at += answer.end;
+        number = answer.next;
+        deals += 1;
+    }
+}
+
+// Answering a book: four numbers a deal, from the front of the list, which stays as it was where the book is refused.
+pub fn answer_book(book: &[u8], results: &mut [u64]) -> Reply
+    ensures { λ r. ⌜ (r ≡ bookReply (now (book .entry)) (length (now (results .entry)))) × (now (results .exit) ≡ resultsAfter (now (book .entry)) (now (results .entry))) ⌝ }
+{
+    let reply = reply_to(book, results.len());
+    if reply.refusal != 0 {
+        return reply;
+    }
+    let at: usize = HEADER_BYTES;
+    answer_deals(&book[at..], results);
+    reply
+}

@@ -1,0 +1,52 @@
+// What a book as a whole is refused for, and the reply.
+ghost use mathlib.Core.Path.{_≡_};
+ghost use Rattle.book.specs.Book.{bookReply, refusedReply};
+use crate::deals::count_deals;
+use crate::reading::own_line;
+use text::starts_with;
+
+const BYTE_LIMIT: usize = 65_536;
+
+pub const HEADER_BYTES: usize = 6;
+
+const WRONG_HEADER: u64 = 9;
+
+const TOO_LONG: u64 = 10;
+
+const NO_DEAL_FIRST: u64 = 12;
+
+const LIST_TOO_SHORT: u64 = 13;
+
+pub struct Reply {
+    // The refusal of the whole book, or 0.
+    pub refusal: u64,
+    // How many deals are answered.
+    pub deals: usize,
+}
+
+fn refused(refusal: u64) -> Reply
+    ensures { λ r. ⌜ r ≡ refusedReply refusal ⌝ }
+{
+    Reply { refusal, deals: 0 }
+}
+
+// The reply to a book, for a results list with so many places.
+pub fn reply_to(book: &[u8], places: usize) -> Reply
+    ensures { λ r. ⌜ r ≡ bookReply (now (book .entry)) places ⌝ }
+{
+    if book.len() > BYTE_LIMIT {
+        return refused(TOO_LONG);
+    }
+    if !starts_with(book, b"CRM\t1\n") {
+        return refused(WRONG_HEADER);
+    }
+    let at: usize = HEADER_BYTES;
+    if own_line(book, at) {
+        return refused(NO_DEAL_FIRST);
+    }
+    let deals = count_deals(&book[at..]);
+    if places / 4 < deals {
+        return refused(LIST_TOO_SHORT);
+    }
+    Reply { refusal: 0, deals }
+}

@@ -1,0 +1,103 @@
+-- `crmbook::main` is safe and ends. Assumes the contracts of reading and writing.
+use Prim.Native.Nat.{ℕ, _+_, _≤_}
+use mathlib.Core.Path.{_≡_, sym, _∙_, ap}
+use mathlib.Core.List.{List, _++_}
+use native.Mathlib.Omega.{arith}
+use lib.ListN.{length, length-append}
+use lib.Seq.{length-take-le}
+use Rattle.base.proofs.Tests.{tests}
+use Rattle.result.specs.Result.{written}
+use Rattle.crmbook.proofs.main.Statement.{statement}
+use Rattle.crmbook.proofs.main.Tie as tie
+
+slice-aggregate-read-input : tie.Need-slice-aggregate-read-input
+slice-aggregate-read-input c = search tests
+
+read-input-requires : tie.Need-read-input-requires
+read-input-requires c κs = search tests
+
+slice-aggregate-write-all : tie.Need-slice-aggregate-write-all
+slice-aggregate-write-all c = search tests
+
+write-all-requires : tie.Need-write-all-requires
+write-all-requires c κs = search tests
+
+returns : tie.Need-returns
+returns c = search tests
+
+array-share-prefix-buffer : tie.Need-array-share-prefix-buffer
+array-share-prefix-buffer c = search tests
+
+slice-aggregate-answer-book : tie.Need-slice-aggregate-answer-book
+slice-aggregate-answer-book c = sym (length-take-le _ _ (c .before .before .before .before .read-input .ensures))
+
+slice-aggregate-answer-book-2 : tie.Need-slice-aggregate-answer-book-2
+slice-aggregate-answer-book-2 c = search tests
+
+answer-book-requires : tie.Need-answer-book-requires
+answer-book-requires c κs = search tests
+
+slice-aggregate-write-result : tie.Need-slice-aggregate-write-result
+slice-aggregate-write-result c = search tests
+
+slice-aggregate-write-result-2 : tie.Need-slice-aggregate-write-result-2
+slice-aggregate-write-result-2 c = search tests
+
+write-result-requires : tie.Need-write-result-requires
+write-result-requires c κs = search tests
+
+part-inside : (n refusal deals space : ℕ) (results rest after : List ℕ)
+    → let text = written refusal deals results space in (n ≡ length text) × (after ≡ text ++ rest) → n ≤ length after
+part-inside n refusal deals space results rest after h =
+    let text = written refusal deals results space in
+    let k : length after ≡ length text + length rest = ap length (h .1) ∙ length-append text rest in
+    omega (arith, h .0, k)
+
+-- the text written is a part of the buffer
+inside : (c : tie.After-write-result) → c .write-result .result ≤ length (c .write-result .last .1 .1 .1 .0)
+inside c = part-inside _ _ _ _ _ _ _ (c .write-result .ensures)
+
+array-share-prefix-text : tie.Need-array-share-prefix-text
+array-share-prefix-text c = inside (c .before)
+
+slice-aggregate-write-all-2 : tie.Need-slice-aggregate-write-all-2
+slice-aggregate-write-all-2 c = sym (length-take-le _ _ (inside (c .before .before)))
+
+write-all-requires-2 : tie.Need-write-all-requires-2
+write-all-requires-2 c κs = search tests
+
+slice-aggregate-write-all-3 : tie.Need-slice-aggregate-write-all-3
+slice-aggregate-write-all-3 c = search tests
+
+write-all-requires-3 : tie.Need-write-all-requires-3
+write-all-requires-3 c κs = search tests
+
+returns-2 : tie.Need-returns-2
+returns-2 c = search tests
+
+returns-3 : tie.Need-returns-3
+returns-3 c = search tests
+
+pub main-spec : {M : Type 1} → statement M
+main-spec =
+    tie.close
+    (tie.spec
+    slice-aggregate-read-input
+    read-input-requires
+    slice-aggregate-write-all
+    write-all-requires
+    returns
+    array-share-prefix-buffer
+    slice-aggregate-answer-book
+    slice-aggregate-answer-book-2
+    answer-book-requires
+    slice-aggregate-write-result
+    slice-aggregate-write-result-2
+    write-result-requires
+    array-share-prefix-text
+    slice-aggregate-write-all-2
+    write-all-requires-2
+    slice-aggregate-write-all-3
+    write-all-requires-3
+    returns-2
+    returns-3)

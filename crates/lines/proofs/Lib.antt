@@ -1,0 +1,4 @@
+pub mod Examples
+pub mod FieldLaws
+pub mod LineLaws
+pub mod NumberLaws

@@ -1,0 +1,44 @@
+-- The laws of what a line says. Assumes nothing.
+use Prim.Native.Nat.{ℕ, zero, suc, _+_}
+use mathlib.Core.Path.{_≡_, refl, _∙_}
+use mathlib.Core.List.{List, [], _∷_, _++_}
+use mathlib.Core.Option.{Option, none, some}
+use native.Mathlib.Nat.{not-suc-le-zero}
+use lib.ListN.{length, getD, drop, replicate}
+use lib.Seq.{getD-drop}
+use Rattle.base.specs.Choice.{if_then_else_}
+use Rattle.base.specs.Places.{inPlaces}
+use Rattle.base.proofs.Placed.{places-hold}
+use Rattle.lines.specs.Fields.{fieldsHeld}
+use Rattle.lines.specs.Lines.{dealLine, collateralLine, guaranteeLine, ifRead, ifHeld}
+use Rattle.lines.specs.declared.line.Line.{Line}
+
+-- zeros behind a list change no field of it
+zeros-behind : (vs zs : List ℕ) → ((k : ℕ) → getD zs k 0 ≡ 0) → (k : ℕ) → getD (vs ++ zs) k 0 ≡ getD vs k 0
+zeros-behind [] zs h k = h k
+zeros-behind (v ∷ vs) zs h zero = refl
+zeros-behind (v ∷ vs) zs h (suc k) = zeros-behind vs zs h k
+
+held-at : (vs : List ℕ) (k : ℕ) → getD (inPlaces 11 0 vs) k 0 ≡ getD vs k 0
+held-at vs k =
+    zeros-behind vs (drop (length vs) (replicate 11 0))
+    (λ i. getD-drop (length vs) (replicate 11 0) i 0 ∙ places-hold (λ a. a ≡ 0) 0 11 [] refl (λ j h. absurd (not-suc-le-zero h)) (length vs + i))
+    k
+
+-- what is said of fields is said of them in the places that hold them
+held : (said : List ℕ → Line) → ((vs : List ℕ) → said (inPlaces 11 0 vs) ≡ said vs) → (o : Option (List ℕ)) → ifHeld said (fieldsHeld o) ≡ ifRead said o
+unfolding ifHeld ifRead fieldsHeld if_then_else_
+held said same none = refl
+held said same (some vs) = same vs
+
+pub deal-held : (o : Option (List ℕ)) → ifHeld dealLine (fieldsHeld o) ≡ ifRead dealLine o
+unfolding dealLine
+deal-held = held dealLine (λ vs. simp (held-at vs))
+
+pub collateral-held : (o : Option (List ℕ)) → ifHeld collateralLine (fieldsHeld o) ≡ ifRead collateralLine o
+unfolding collateralLine
+collateral-held = held collateralLine (λ vs. simp (held-at vs))
+
+pub guarantee-held : (o : Option (List ℕ)) → ifHeld guaranteeLine (fieldsHeld o) ≡ ifRead guaranteeLine o
+unfolding guaranteeLine
+guarantee-held = held guaranteeLine (λ vs. simp (held-at vs))

@@ -1,0 +1,141 @@
+-- `lines::line::read_line` meets its contract: the letter decides how many fields are read and what they say. Assumes nothing.
+use Prim.Native.Nat.{ℕ, _<_}
+use mathlib.Core.Path.{_≡_, refl, sym}
+use mathlib.Core.List.{List, [], _∷_}
+use native.Mathlib.Omega.{arith}
+use borrow.Author.Tests.{ne-eqb}
+use lib.ListN.{length, drop, getD}
+use Rattle.base.specs.Choice.{if_then_else_}
+use Rattle.lines.specs.Fields.{fieldsOf}
+use Rattle.lines.specs.Lines.{dealLine, collateralLine, guaranteeLine, ifRead, lineOf}
+use Rattle.lines.specs.declared.line.Line.the-variants.{Malformed}
+use Rattle.lines.proofs.FieldLaws.{tail}
+use Rattle.lines.proofs.LineLaws.{deal-held, collateral-held, guarantee-held}
+use Rattle.lines.proofs.line.read_line.Statement.{statement}
+use Rattle.lines.proofs.line.read_line.Tie as tie
+
+empty : (line : List ℕ) → length line ≡ 0 → lineOf line ≡ Malformed
+unfolding lineOf
+empty [] h = refl
+empty (b ∷ bs) h = absurd (omega arith)
+
+-- by the letter
+deal : (line : List ℕ) → 0 < length line → getD line 0 0 ≡ 68 → lineOf line ≡ ifRead dealLine (fieldsOf 10 (drop 1 line))
+unfolding lineOf if_then_else_
+deal [] h e = absurd (omega arith)
+deal (b ∷ bs) h e = rw e
+
+collateral : (line : List ℕ) → 0 < length line → getD line 0 0 ≡ 67 → lineOf line ≡ ifRead collateralLine (fieldsOf 11 (drop 1 line))
+unfolding lineOf if_then_else_
+collateral [] h e = absurd (omega arith)
+collateral (b ∷ bs) h e = rw e
+
+guarantee : (line : List ℕ) → 0 < length line → getD line 0 0 ≡ 71 → lineOf line ≡ ifRead guaranteeLine (fieldsOf 9 (drop 1 line))
+unfolding lineOf if_then_else_
+guarantee [] h e = absurd (omega arith)
+guarantee (b ∷ bs) h e = rw e
+
+other : (line : List ℕ) → (getD line 0 0 ≡ 68 → ⊥) → (getD line 0 0 ≡ 67 → ⊥) → (getD line 0 0 ≡ 71 → ⊥) → lineOf line ≡ Malformed
+unfolding lineOf if_then_else_
+other [] d c g = refl
+other (b ∷ bs) d c g = simp (ne-eqb b 68 d, ne-eqb b 67 c, ne-eqb b 71 g)
+
+returns : tie.Need-returns
+returns c = sym (empty _ (omega (arith, c .if1 .taken)))
+
+shared-slice-read-letter : tie.Need-shared-slice-read-letter
+shared-slice-read-letter c = omega arith
+
+sub-read-fields : tie.Need-sub-read-fields
+sub-read-fields c = omega arith
+
+part-read-fields-start : tie.Need-part-read-fields-start
+part-read-fields-start c = omega arith
+
+part-read-fields-end : tie.Need-part-read-fields-end
+part-read-fields-end c = omega arith
+
+read-fields-requires : tie.Need-read-fields-requires
+read-fields-requires c κs = omega arith
+
+deal-line-requires : tie.Need-deal-line-requires
+deal-line-requires c κs = tt
+
+sub-read-fields-2 : tie.Need-sub-read-fields-2
+sub-read-fields-2 c = omega arith
+
+part-read-fields-start-2 : tie.Need-part-read-fields-start-2
+part-read-fields-start-2 c = omega arith
+
+part-read-fields-end-2 : tie.Need-part-read-fields-end-2
+part-read-fields-end-2 c = omega arith
+
+read-fields-requires-2 : tie.Need-read-fields-requires-2
+read-fields-requires-2 c κs = omega arith
+
+collateral-line-requires : tie.Need-collateral-line-requires
+collateral-line-requires c κs = tt
+
+sub-read-fields-3 : tie.Need-sub-read-fields-3
+sub-read-fields-3 c = omega arith
+
+part-read-fields-start-3 : tie.Need-part-read-fields-start-3
+part-read-fields-start-3 c = omega arith
+
+part-read-fields-end-3 : tie.Need-part-read-fields-end-3
+part-read-fields-end-3 c = omega arith
+
+read-fields-requires-3 : tie.Need-read-fields-requires-3
+read-fields-requires-3 c κs = omega arith
+
+guarantee-line-requires : tie.Need-guarantee-line-requires
+guarantee-line-requires c κs = tt
+
+returns-2 : tie.Need-returns-2
+returns-2 c =
+    let m = c .before .before .before in
+    let e = rw tail at (c .before .read-fields .ensures) in
+    rw (c .deal-line .ensures, e, deal-held) (sym (deal _ (omega arith) (omega (arith, m .match .keys1))))
+
+returns-3 : tie.Need-returns-3
+returns-3 c =
+    let m = c .before .before .before in
+    let e = rw tail at (c .before .read-fields2 .ensures) in
+    rw (c .collateral-line .ensures, e, collateral-held) (sym (collateral _ (omega arith) (omega (arith, m .match .keys2))))
+
+returns-4 : tie.Need-returns-4
+returns-4 c =
+    let m = c .before .before .before in
+    let e = rw tail at (c .before .read-fields3 .ensures) in
+    rw (c .guarantee-line .ensures, e, guarantee-held) (sym (guarantee _ (omega arith) (omega (arith, m .match .keys3))))
+
+returns-5 : tie.Need-returns-5
+returns-5 c =
+    let r = c .match .rest in
+    sym (other _ (r .0 .0 .1) (r .0 .1) (r .1))
+
+pub read-line-spec : {M : Type 1} → statement M
+read-line-spec =
+    tie.close
+    (tie.spec
+    returns
+    shared-slice-read-letter
+    sub-read-fields
+    part-read-fields-start
+    part-read-fields-end
+    read-fields-requires
+    deal-line-requires
+    sub-read-fields-2
+    part-read-fields-start-2
+    part-read-fields-end-2
+    read-fields-requires-2
+    collateral-line-requires
+    sub-read-fields-3
+    part-read-fields-start-3
+    part-read-fields-end-3
+    read-fields-requires-3
+    guarantee-line-requires
+    returns-2
+    returns-3
+    returns-4
+    returns-5)

@@ -1,0 +1,5 @@
+pub mod Decimal
+pub mod Digits
+pub mod Examples
+pub mod Lines
+pub mod Placed

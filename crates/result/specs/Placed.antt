@@ -1,0 +1,14 @@
+-- A text written into a lent buffer.
+use Prim.Native.Nat.{ℕ, _+_}
+use mathlib.Core.Path.{_≡_}
+use mathlib.Core.List.{List, _++_}
+use lib.ListN.{length, take, drop}
+
+-- the buffer with a text from this place on: every byte before the text and behind it as it was
+unfoldable pub placedAt : ℕ → List ℕ → List ℕ → List ℕ
+placedAt at text before = take at before ++ text ++ drop (at + length text) before
+
+-- the buffer after writing holds the text from this place on, and the answer is the place behind it
+pub record Placed (at : ℕ) (text before after : List ℕ) (end : ℕ) : Type 0 where
+  pub ends : end ≡ at + length text
+  pub holds : after ≡ placedAt at text before

@@ -1,0 +1,43 @@
+-- The text of a book's result. 01: The book
+use Prim.Native.Nat.{ℕ, zero, suc, _+_, _*_}
+use mathlib.Core.Bool.{Bool, _&&_}
+use mathlib.Core.List.{List, [], _∷_, _++_}
+use lib.Dec.{eqb, leb}
+use lib.ListN.{length, drop, getD}
+use Rattle.base.specs.Choice.{if_then_else_}
+use Rattle.text.specs.Text.{tab, lineFeed}
+use Rattle.result.specs.Decimal.{numberText}
+
+-- a deal's line: its four numbers, parted by one tab; every line ends in a line feed
+unfoldable pub row : ℕ → ℕ → ℕ → ℕ → List ℕ
+row a b c d = numberText a ++ tab ∷ numberText b ++ tab ∷ numberText c ++ tab ∷ numberText d ++ lineFeed ∷ []
+
+-- a line for each of so many deals; each takes the next four numbers of the list
+unfoldable pub rows : ℕ → List ℕ → List ℕ
+rows zero results = []
+rows (suc k) results = row (getD results 0 0) (getD results 1 0) (getD results 2 0) (getD results 3 0) ++ rows k (drop 4 results)
+
+-- "RESULT", a tab, "1" and a line feed
+abbrev pub heading : List ℕ
+heading = 82 ∷ 69 ∷ 83 ∷ 85 ∷ 76 ∷ 84 ∷ tab ∷ 49 ∷ lineFeed ∷ []
+
+-- "REFUSED" and a tab
+abbrev pub refusedHeading : List ℕ
+refusedHeading = 82 ∷ 69 ∷ 70 ∷ 85 ∷ 83 ∷ 69 ∷ 68 ∷ tab ∷ []
+
+-- with refusal 0 the heading and a line for each deal, otherwise only REFUSED and the refusal's number
+unfoldable pub resultText : ℕ → ℕ → List ℕ → List ℕ
+resultText refusal deals results =
+    if eqb refusal 0 then heading ++ rows deals results else refusedHeading ++ numberText refusal ++ lineFeed ∷ []
+
+-- the longest text of so many deals: of each four numbers of 20 digits with a byte behind each; REFUSED with 20 digits takes 29
+abbrev pub room : ℕ → ℕ
+room deals = 29 + 84 * deals
+
+-- whether a buffer of so many bytes has that room, and a list of so many numbers has four for each deal
+unfoldable pub fits : ℕ → ℕ → ℕ → Bool
+fits deals numbers space = leb (room deals) space && leb (4 * deals) numbers
+
+-- what is written into a buffer of so many bytes: the text, or nothing where either is too short
+unfoldable pub written : ℕ → ℕ → List ℕ → ℕ → List ℕ
+written refusal deals results space = if fits deals (length results) space then resultText refusal deals results else []

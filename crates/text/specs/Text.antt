@@ -1,0 +1,33 @@
+-- A book's bytes and the lines they make. 01: The book
+use Prim.Native.Nat.{ℕ}
+use mathlib.Core.Bool.{Bool, true, false, _&&_}
+use mathlib.Core.List.{List, [], _∷_}
+use lib.Dec.{eqb}
+use Rattle.base.specs.Choice.{if_then_else_}
+
+abbrev pub tab : ℕ
+tab = 9
+
+abbrev pub lineFeed : ℕ
+lineFeed = 10
+
+-- whether a text, the second one, starts with the first
+unfoldable pub startsWith : List ℕ → List ℕ → Bool
+startsWith [] text = true
+startsWith (p ∷ ps) [] = false
+startsWith (p ∷ ps) (b ∷ bs) = eqb b p && startsWith ps bs
+
+-- "Lines end in a line feed". A line has its line feed as its last byte; only the last line of a text may be without one
+unfoldable pub firstLine : List ℕ → List ℕ
+firstLine [] = []
+firstLine (b ∷ bs) = if eqb b lineFeed then b ∷ [] else b ∷ firstLine bs
+
+-- a line whose first byte is given, and the lines behind it
+unfoldable pub extendFirst : ℕ → List (List ℕ) → List (List ℕ)
+extendFirst b [] = (b ∷ []) ∷ []
+extendFirst b (line ∷ lines) = (b ∷ line) ∷ lines
+
+-- all lines of a text. Behind a last line feed there is no line
+unfoldable pub linesOf : List ℕ → List (List ℕ)
+linesOf [] = []
+linesOf (b ∷ bs) = if eqb b lineFeed then (b ∷ []) ∷ linesOf bs else extendFirst b (linesOf bs)
