@@ -1,3 +1,5 @@
 pub mod Answering
+pub mod Apart
+pub mod Examples
 pub mod Grouping
 pub mod Refusing

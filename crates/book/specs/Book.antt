@@ -7,14 +7,15 @@ use lib.ListN.{drop, length, take}
 use Rattle.base.specs.All.{all}
 use Rattle.base.specs.Choice.{if_then_else_}
 use Rattle.base.specs.FirstMet.{Test, _when_, firstMet}
-use Rattle.text.specs.Text.{tab, lineFeed, startsWith, linesOf}
+use Rattle.text.specs.Bytes.{bytes}
+use Rattle.text.specs.Text.{startsWith, linesOf}
 use Rattle.book.specs.Deals.{DealLines, opensDeal, dealsFrom}
 use Rattle.book.specs.Answers.{answersFrom}
 use Rattle.book.specs.declared.reply.Reply.{Reply}
 
 -- "The first line is the five bytes C, R, M, tab, 1 and its line feed"
 abbrev pub header : List ℕ
-header = 67 ∷ 82 ∷ 77 ∷ tab ∷ 49 ∷ lineFeed ∷ []
+header = bytes "CRM\t1\n"
 
 abbrev pub bookLimit : ℕ
 bookLimit = 65536

@@ -3,11 +3,12 @@ use Prim.Native.Nat.{ℕ, _+_}
 use mathlib.Core.Bool.{Bool}
 use mathlib.Core.List.{List, [], _∷_}
 use Rattle.base.specs.Choice.{if_then_else_}
-use Rattle.text.specs.Text.{tab, startsWith}
+use Rattle.text.specs.Bytes.{bytes}
+use Rattle.text.specs.Text.{startsWith}
 
 -- "Every line beginning with D and a tab opens a deal"
 abbrev pub opensDeal : List ℕ → Bool
-opensDeal line = startsWith (68 ∷ tab ∷ []) line
+opensDeal line = startsWith (bytes "D\t") line
 
 -- "lines up to the next such line are its own"
 unfoldable pub ownLines : List (List ℕ) → List (List ℕ)

@@ -1,21 +1,16 @@
 -- The laws of the fields of a line. Assumes nothing.
-use Prim.Native.Nat.{ℕ, suc, _+_, _-_, _≤_}
+use Prim.Native.Nat.{ℕ, suc, _+_, _≤_}
 use mathlib.Core.Path.{_≡_}
 use mathlib.Core.List.{List, [], _∷_}
 use native.Mathlib.Omega.{arith}
 use lib.Dec.{eqb}
-use lib.ListN.{length, take, drop, length-drop}
-use lib.Seq.{take-all}
+use lib.ListN.{length}
 use Rattle.base.proofs.Choice.{either}
 use Rattle.text.specs.Text.{tab}
 use Rattle.lines.specs.Fields.{fieldOf}
 use Rattle.lines.specs.declared.number.Number.{Number}
 use Rattle.lines.specs.declared.number.Number.the-variants.{Value}
 use Rattle.lines.proofs.NumberLaws.{number-short}
-
--- the part of a slice that goes to its end
-pub tail : (a : ℕ) (s : List ℕ) → take (length s - a) (drop a s) ≡ drop a s
-tail a s = take-all (length s - a) (drop a s) (rw length-drop (omega arith))
 
 -- the tab and the digits of a field are bytes of the rest
 pub field-short : (rest : List ℕ) (v n : ℕ) → fieldOf rest ≡ Value v n → 1 + n ≤ length rest

@@ -10,7 +10,7 @@ use lib.Seq.{drop-cons}
 use Rattle.base.proofs.Choice.{if-true, if-false, either}
 use Rattle.base.proofs.Range.{over}
 use Rattle.base.proofs.Tests.{and-first}
-use Rattle.lines.specs.Numbers.{isDigit, digitsOf, decimalFrom, numberAllowed, numberRead, numberOf}
+use Rattle.lines.specs.Numbers.{isDigit, digitsOf, numberAllowed, numberRead, numberOf}
 use Rattle.lines.specs.declared.number.Number.the-variants.{Value, NoNumber}
 
 -- The digits from a place on
@@ -32,12 +32,6 @@ pub digits-short : (text : List ℕ) → length (digitsOf text) ≤ length text
 unfolding digitsOf
 digits-short [] = omega arith
 digits-short (b ∷ bs) = either (λ (ds : List ℕ). length ds ≤ suc (length bs)) (isDigit b) (λ e. omega (arith, digits-short bs)) (λ e. omega arith)
-
--- one digit more
-pub decimal-more : (made : ℕ) (ds : List ℕ) (d : ℕ) → decimalFrom made (ds ++ d ∷ []) ≡ decimalFrom made ds * 10 + (d - 48)
-unfolding decimalFrom
-decimal-more made [] d = refl
-decimal-more made (e ∷ ds) d = decimal-more (made * 10 + (e - 48)) ds d
 
 pub too-many : (text : List ℕ) → 13 < length (digitsOf text) → numberOf text ≡ NoNumber
 unfolding numberOf numberRead numberAllowed

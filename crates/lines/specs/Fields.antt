@@ -1,10 +1,10 @@
 -- The fields of a line behind its letter. 01: The book
 use Prim.Native.Nat.{ℕ, zero, suc, _+_}
-use mathlib.Core.Bool.{Bool, true, false, _&&_}
+use mathlib.Core.Bool.{Bool, true, false}
 use mathlib.Core.List.{List, [], _∷_}
 use mathlib.Core.Option.{Option, none, some}
 use lib.Dec.{eqb}
-use lib.ListN.{drop, length, replicate}
+use lib.ListN.{drop, replicate}
 use Rattle.base.specs.Choice.{if_then_else_}
 use Rattle.base.specs.Places.{inPlaces}
 use Rattle.text.specs.Text.{tab, lineFeed}

@@ -5,6 +5,7 @@ use mathlib.Core.Option.{Option, none, some}
 use lib.Dec.{eqb}
 use lib.ListN.{getD}
 use Rattle.base.specs.Choice.{if_then_else_}
+use Rattle.text.specs.Bytes.{byte}
 use Rattle.deal.specs.Terms.{termsOf}
 use Rattle.deal.specs.declared.collateral.Collateral.{Collateral}
 use Rattle.deal.specs.declared.guarantee.Guarantee.{Guarantee}
@@ -66,7 +67,7 @@ ifHeld said fields = if fields .read then said (fields .values) else Malformed
 unfoldable pub lineOf : List ℕ → Line
 lineOf [] = Malformed
 lineOf (letter ∷ rest) =
-    if eqb letter 68 then ifRead dealLine (fieldsOf 10 rest) else
-    if eqb letter 67 then ifRead collateralLine (fieldsOf 11 rest) else
-    if eqb letter 71 then ifRead guaranteeLine (fieldsOf 9 rest) else
+    if eqb letter (byte "D") then ifRead dealLine (fieldsOf 10 rest) else
+    if eqb letter (byte "C") then ifRead collateralLine (fieldsOf 11 rest) else
+    if eqb letter (byte "G") then ifRead guaranteeLine (fieldsOf 9 rest) else
     Malformed

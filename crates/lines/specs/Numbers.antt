@@ -1,11 +1,12 @@
 -- Numbers in a line. 01: The book
-use Prim.Native.Nat.{ℕ, _+_, _*_, _-_}
+use Prim.Native.Nat.{ℕ}
 use mathlib.Core.Bool.{Bool, not, _&&_, _||_}
 use mathlib.Core.List.{List, [], _∷_}
 use lib.Dec.{eqb}
 use lib.ListN.{length, getD}
 use Rattle.base.specs.Choice.{if_then_else_}
 use Rattle.base.specs.Range.{within}
+use Rattle.text.specs.Decimal.{decimal}
 use Rattle.lines.specs.declared.number.Number.{Number}
 use Rattle.lines.specs.declared.number.Number.the-variants.{Value, NoNumber}
 
@@ -17,14 +18,6 @@ isDigit b = within 48 57 b
 unfoldable pub digitsOf : List ℕ → List ℕ
 digitsOf [] = []
 digitsOf (b ∷ bs) = if isDigit b then b ∷ digitsOf bs else []
-
--- the decimal number that digits write behind those that make a number already
-unfoldable pub decimalFrom : ℕ → List ℕ → ℕ
-decimalFrom made [] = made
-decimalFrom made (d ∷ ds) = decimalFrom (made * 10 + (d - 48)) ds
-
-abbrev pub decimal : List ℕ → ℕ
-decimal digits = decimalFrom 0 digits
 
 -- "A number has 1 to 13 digits and no leading zero, save 0 itself"
 unfoldable pub numberAllowed : List ℕ → Bool

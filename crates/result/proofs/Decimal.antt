@@ -5,28 +5,20 @@ use mathlib.Core.List.{List, [], _∷_, _++_}
 use native.Mathlib.Nat.{pow-suc}
 use native.Mathlib.Omega.{arith}
 use lib.ListN.{length, length-append, getD, List·getD-append}
+use Rattle.text.specs.Decimal.{decimal, decimalFrom}
+use Rattle.text.proofs.Decimal.{decimal-more}
 use Rattle.result.specs.Decimal.{digitText, numberText}
 use Rattle.result.proofs.Digits.{by-size}
 
--- reading digits from the front, behind those that made this number
-unfoldable pub decimalFrom : ℕ → List ℕ → ℕ
-decimalFrom made [] = made
-decimalFrom made (d ∷ ds) = decimalFrom (made * 10 + (d - 48)) ds
-
-read-last : (made : ℕ) (ds : List ℕ) (d : ℕ) → decimalFrom made (ds ++ d ∷ []) ≡ decimalFrom made ds * 10 + (d - 48)
-unfolding decimalFrom
-read-last made [] d = refl
-read-last made (x ∷ ds) d = read-last (made * 10 + (x - 48)) ds d
-
-digits-read : (k n : ℕ) → n < 10 ^ k → decimalFrom 0 (digitText k n) ≡ n
+digits-read : (k n : ℕ) → n < 10 ^ k → decimal (digitText k n) ≡ n
 unfolding decimalFrom digitText
 digits-read zero n h = omega arith
 digits-read (suc k) n h =
-    by-size (λ t. decimalFrom 0 t ≡ n) k n
+    by-size (λ t. decimal t ≡ n) k n
     (λ s. omega arith)
-    (λ l. omega (arith, read-last 0 (digitText k (n / 10)) (48 + n % 10), digits-read k (n / 10) (omega (arith, pow-suc 10 k))))
+    (λ l. omega (arith, decimal-more 0 (digitText k (n / 10)) (48 + n % 10), digits-read k (n / 10) (omega (arith, pow-suc 10 k))))
 
-pub number-read : (n : ℕ) → n < 18446744073709551616 → decimalFrom 0 (numberText n) ≡ n
+pub number-read : (n : ℕ) → n < 18446744073709551616 → decimal (numberText n) ≡ n
 unfolding numberText
 number-read n h = digits-read 20 n (omega arith)
 

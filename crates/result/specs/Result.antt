@@ -5,6 +5,7 @@ use mathlib.Core.List.{List, [], _∷_, _++_}
 use lib.Dec.{eqb, leb}
 use lib.ListN.{length, drop, getD}
 use Rattle.base.specs.Choice.{if_then_else_}
+use Rattle.text.specs.Bytes.{bytes}
 use Rattle.text.specs.Text.{tab, lineFeed}
 use Rattle.result.specs.Decimal.{numberText}
 
@@ -17,13 +18,13 @@ unfoldable pub rows : ℕ → List ℕ → List ℕ
 rows zero results = []
 rows (suc k) results = row (getD results 0 0) (getD results 1 0) (getD results 2 0) (getD results 3 0) ++ rows k (drop 4 results)
 
--- "RESULT", a tab, "1" and a line feed
+-- "`RESULT`, tab, `1`"; every line ends in a line feed
 abbrev pub heading : List ℕ
-heading = 82 ∷ 69 ∷ 83 ∷ 85 ∷ 76 ∷ 84 ∷ tab ∷ 49 ∷ lineFeed ∷ []
+heading = bytes "RESULT\t1\n"
 
--- "REFUSED" and a tab
+-- "or only `REFUSED`, tab, number"
 abbrev pub refusedHeading : List ℕ
-refusedHeading = 82 ∷ 69 ∷ 70 ∷ 85 ∷ 83 ∷ 69 ∷ 68 ∷ tab ∷ []
+refusedHeading = bytes "REFUSED\t"
 
 -- with refusal 0 the heading and a line for each deal, otherwise only REFUSED and the refusal's number
 unfoldable pub resultText : ℕ → ℕ → List ℕ → List ℕ

@@ -1,1 +1,3 @@
+pub mod Bytes
+pub mod Decimal
 pub mod Text

@@ -5,9 +5,11 @@ use mathlib.Core.List.{List, [], _∷_}
 use lib.Dec.{eqb}
 use Rattle.base.specs.Choice.{if_then_else_}
 
+-- byte "\t"
 abbrev pub tab : ℕ
 tab = 9
 
+-- byte "\n"
 abbrev pub lineFeed : ℕ
 lineFeed = 10
 

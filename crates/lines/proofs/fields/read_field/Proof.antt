@@ -12,7 +12,7 @@ use Rattle.text.specs.Text.{tab}
 use Rattle.lines.specs.Numbers.{numberOf}
 use Rattle.lines.specs.Fields.{fieldOf}
 use Rattle.lines.specs.declared.number.Number.the-variants.{NoNumber}
-use Rattle.lines.proofs.FieldLaws.{tail}
+use Rattle.text.proofs.Lines.{rest-part}
 use Rattle.lines.proofs.fields.read_field.Statement.{statement}
 use Rattle.lines.proofs.fields.read_field.Tie as tie
 
@@ -50,7 +50,7 @@ read-number-requires c κs = tt
 returns-3 : tie.Need-returns-3
 returns-3 c =
     let b = c .before .before .before .before in
-    rw tail at (c .read-number .ensures) ∙ sym (opened (b .before .before .args .rest .now) (omega arith) ∙ if-true _ _ _ (eq-eqb _ tab (c .before .before .if2 .left)))
+    rw rest-part at (c .read-number .ensures) ∙ sym (opened (b .before .before .args .rest .now) (omega arith) ∙ if-true _ _ _ (eq-eqb _ tab (c .before .before .if2 .left)))
 
 pub read-field-spec : {M : Type 1} → statement M
 read-field-spec =

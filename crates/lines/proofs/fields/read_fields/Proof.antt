@@ -15,7 +15,8 @@ use Rattle.base.proofs.Tests.{tests, told-not-true, told-not-false}
 use Rattle.lines.specs.Fields.{fieldOf, isEnd, andThen, withNumber, fieldsOf, fieldsHeld}
 use Rattle.lines.specs.declared.fields.Fields.{Fields}
 use Rattle.lines.specs.declared.number.Number.the-variants.{Value, NoNumber}
-use Rattle.lines.proofs.FieldLaws.{tail, field-short}
+use Rattle.text.proofs.Lines.{rest-part}
+use Rattle.lines.proofs.FieldLaws.{field-short}
 use Rattle.lines.proofs.fields.read_fields.Statement.{statement}
 use Rattle.lines.proofs.fields.read_fields.Tie as tie
 
@@ -97,12 +98,12 @@ module _ (line : List ℕ) (count : ℕ) (values : List ℕ) (at k : ℕ) (held 
 -- what the next field is read from
 read : (c : tie.After-read-field Inv-loop μ-loop)
     → fieldOf (drop (c .before .before .before .loop .at) (c .before .before .before .before .before .args .line .now)) ≡ c .read-field .result
-read c = sym (rw tail at (c .read-field .ensures))
+read c = sym (rw rest-part at (c .read-field .ensures))
 
 -- and what follows the last one
 end : (c : tie.After-is-end Inv-loop μ-loop)
     → c .is-end .result ≡ isEnd (drop (c .before .before .before .loop .at) (c .before .before .before .before .before .args .line .now))
-end c = rw tail at (c .is-end .ensures)
+end c = rw rest-part at (c .is-end .ensures)
 
 next : (c : tie.After-known-told Inv-loop μ-loop)
     → let l = c .before .before .before .before .before .before in

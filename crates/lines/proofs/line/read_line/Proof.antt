@@ -9,7 +9,7 @@ use Rattle.base.specs.Choice.{if_then_else_}
 use Rattle.lines.specs.Fields.{fieldsOf}
 use Rattle.lines.specs.Lines.{dealLine, collateralLine, guaranteeLine, ifRead, lineOf}
 use Rattle.lines.specs.declared.line.Line.the-variants.{Malformed}
-use Rattle.lines.proofs.FieldLaws.{tail}
+use Rattle.text.proofs.Lines.{rest-part}
 use Rattle.lines.proofs.LineLaws.{deal-held, collateral-held, guarantee-held}
 use Rattle.lines.proofs.line.read_line.Statement.{statement}
 use Rattle.lines.proofs.line.read_line.Tie as tie
@@ -94,19 +94,19 @@ guarantee-line-requires c κs = tt
 returns-2 : tie.Need-returns-2
 returns-2 c =
     let m = c .before .before .before in
-    let e = rw tail at (c .before .read-fields .ensures) in
+    let e = rw rest-part at (c .before .read-fields .ensures) in
     rw (c .deal-line .ensures, e, deal-held) (sym (deal _ (omega arith) (omega (arith, m .match .keys1))))
 
 returns-3 : tie.Need-returns-3
 returns-3 c =
     let m = c .before .before .before in
-    let e = rw tail at (c .before .read-fields2 .ensures) in
+    let e = rw rest-part at (c .before .read-fields2 .ensures) in
     rw (c .collateral-line .ensures, e, collateral-held) (sym (collateral _ (omega arith) (omega (arith, m .match .keys2))))
 
 returns-4 : tie.Need-returns-4
 returns-4 c =
     let m = c .before .before .before in
-    let e = rw tail at (c .before .read-fields3 .ensures) in
+    let e = rw rest-part at (c .before .read-fields3 .ensures) in
     rw (c .guarantee-line .ensures, e, guarantee-held) (sym (guarantee _ (omega arith) (omega (arith, m .match .keys3))))
 
 returns-5 : tie.Need-returns-5

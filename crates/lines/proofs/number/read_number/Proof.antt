@@ -10,9 +10,11 @@ use lib.ListN.{length, take, drop, getD, length-append}
 use lib.Seq.{take-suc, length-take-le, append-snoc}
 use Rattle.base.proofs.Tests.{told-not-true, told-not-false}
 use Rattle.base.proofs.Range.{bounds}
-use Rattle.lines.specs.Numbers.{isDigit, digitsOf, decimal, decimalFrom, numberRead, numberOf}
+use Rattle.text.specs.Decimal.{decimal, decimalFrom}
+use Rattle.text.proofs.Decimal.{decimal-more}
+use Rattle.lines.specs.Numbers.{isDigit, digitsOf, numberRead, numberOf}
 use Rattle.lines.specs.declared.number.Number.the-variants.{NoNumber}
-use Rattle.lines.proofs.NumberLaws.{digits-more, digits-end, digits-past, decimal-more, too-many}
+use Rattle.lines.proofs.NumberLaws.{digits-more, digits-end, digits-past, too-many}
 use Rattle.lines.proofs.number.read_number.Statement.{statement}
 use Rattle.lines.proofs.number.read_number.Tie as tie
 

@@ -1,0 +1,159 @@
+-- A deal's answer depends on its own lines, its serial and its line number, and on nothing else in the book. Assumes nothing.
+use Prim.Native.Nat.{ℕ, zero, suc, _+_, _*_, _≤_}
+use mathlib.Core.Path.{_≡_, refl, sym, _∙_, ap}
+use mathlib.Core.Bool.{Bool, true, false}
+use mathlib.Core.List.{List, [], _∷_, _++_, append-assoc, append-nil}
+use mathlib.Core.Logic.{_⊎_, inl, ⊎-elim}
+use native.Mathlib.Omega.{arith}
+use lib.Dec.{eqb}
+use lib.ListN.{length, take, drop, length-append}
+use lib.Seq.{take-at, drop-at}
+use Rattle.base.specs.All.{all}
+use Rattle.text.specs.Text.{linesOf}
+use Rattle.text.proofs.Lines.{ended, lines-append, no-lines}
+use Rattle.deal.specs.declared.deal.Deal.{Deal}
+use Rattle.lines.specs.Lines.{lineOf}
+use Rattle.book.specs.Deals.{DealLines, opensDeal, dealsFrom}
+use Rattle.book.specs.Answers.{dealAnswer, answersFrom}
+use Rattle.book.specs.Working.{answerAfter}
+use Rattle.book.specs.Book.{header, dealsOf, bookRefusal, resultsAfter}
+use Rattle.book.specs.declared.progress.Progress.{Progress}
+use Rattle.book.proofs.Answering.{answer-opened, answer-followed, answer-refused, answer-accepted, refused-answer, no-more-items, no-answers, answers-more}
+use Rattle.book.proofs.Grouping.{deals-append, deals-counted, no-deals}
+use Rattle.book.proofs.Refusing.{accepted-results}
+
+-- a deal's answer is three numbers behind its serial
+after-three : (p : Progress) (number : ℕ) (lines : List (List ℕ)) → length (answerAfter p number lines) ≡ 3
+after-three p number [] = go (eqb (p .refusal) 0) refl
+  where
+    go : (t : Bool) → eqb (p .refusal) 0 ≡ t → length (answerAfter p number []) ≡ 3
+    go true e = ap length (answer-accepted p number [] e ∙ no-more-items number (p .deal))
+    go false e = ap length (answer-refused p number [] e ∙ refused-answer (p .refusal) (p .number))
+after-three p number (line ∷ lines) = ap length (answer-followed p number line lines) ∙ after-three _ (number + 1) lines
+
+answers-long : (serial : ℕ) (deals : List DealLines) → length (answersFrom serial deals) ≡ 4 * length deals
+answers-long serial [] = ap length (no-answers serial)
+answers-long serial (deal ∷ deals) =
+    let three = ap length (answer-opened deal) ∙ after-three _ (deal .number + 1) (deal .items) in
+    let more = length-append (dealAnswer deal) (answersFrom (serial + 1) deals) in
+    let rest = answers-long (serial + 1) deals in
+    ap length (answers-more serial deal deals) ∙ omega (arith, three, more, rest)
+
+answers-append : (serial : ℕ) (ds es : List DealLines) → answersFrom serial (ds ++ es) ≡ answersFrom serial ds ++ answersFrom (serial + length ds) es
+answers-append serial [] es =
+    let e : serial ≡ serial + 0 = omega arith in
+    rw (no-answers serial) (ap (λ n. answersFrom n es) e)
+answers-append serial (d ∷ ds) es =
+    let e : serial + 1 + length ds ≡ serial + suc (length ds) = omega arith in
+    answers-more serial d (ds ++ es)
+    ∙ ap (λ xs. serial ∷ (dealAnswer d ++ xs)) (answers-append (serial + 1) ds es ∙ ap (λ n. answersFrom (serial + 1) ds ++ answersFrom n es) e)
+    ∙ ap (λ xs. serial ∷ xs) (sym (append-assoc (dealAnswer d) (answersFrom (serial + 1) ds) (answersFrom (serial + suc (length ds)) es)))
+    ∙ ap (λ xs. xs ++ answersFrom (serial + suc (length ds)) es) (sym (answers-more serial d ds))
+
+-- how many deals and lines a text has
+abbrev pub dealsIn : List ℕ → ℕ
+dealsIn text = length (dealsFrom 2 (linesOf text))
+
+abbrev pub linesIn : List ℕ → ℕ
+linesIn text = length (linesOf text)
+
+-- a text whose first line, if it has one, opens a deal
+abbrev pub StartsDeal : List ℕ → Type 0
+StartsDeal text = all (take 1 (linesOf text)) opensDeal ≡ true
+
+-- the answers to the deals of a text, where the first has this serial, and its first line this number
+abbrev pub answersTo : ℕ → ℕ → List ℕ → List ℕ
+answersTo serial number text = answersFrom serial (dealsFrom number (linesOf text))
+
+-- nothing follows, or what follows starts a new line
+abbrev pub Follows : List ℕ → List ℕ → Type 0
+Follows first second = (ended first ≡ true) ⊎ (second ≡ [])
+
+lines-follow : (first second : List ℕ) → Follows first second → linesOf (first ++ second) ≡ linesOf first ++ linesOf second
+lines-follow first second f = ⊎-elim (lines-append first second) nothing f
+  where
+    nothing : second ≡ [] → linesOf (first ++ second) ≡ linesOf first ++ linesOf second
+    nothing e = rw (e, no-lines, append-nil first, append-nil (linesOf first))
+
+starts-follow : (first second : List ℕ) → Follows first second → StartsDeal first → StartsDeal second → StartsDeal (first ++ second)
+starts-follow first second f s t = ap (λ ls. all (take 1 ls) opensDeal) (lines-follow first second f) ∙ go (linesOf first) s
+  where
+    go : (ls : List (List ℕ)) → all (take 1 ls) opensDeal ≡ true → all (take 1 (ls ++ linesOf second)) opensDeal ≡ true
+    go [] h = t
+    go (l ∷ ls) h = h
+
+answers-follow : (serial number : ℕ) (first second : List ℕ) → Follows first second → StartsDeal second
+    → answersTo serial number (first ++ second) ≡ answersTo serial number first ++ answersTo (serial + dealsIn first) (number + linesIn first) second
+answers-follow serial number first second f s =
+    ap (λ ls. answersFrom serial (dealsFrom number ls)) (lines-follow first second f)
+    ∙ ap (answersFrom serial) (deals-append number (linesOf first) (linesOf second) s)
+    ∙ answers-append serial (dealsFrom number (linesOf first)) (dealsFrom (number + linesIn first) (linesOf second))
+    ∙ ap (λ k. answersTo serial number first ++ answersTo (serial + k) (number + linesIn first) second) (deals-counted number 2 (linesOf first))
+
+to-long : (serial number : ℕ) (text : List ℕ) → length (answersTo serial number text) ≡ 4 * dealsIn text
+to-long serial number text = answers-long serial (dealsFrom number (linesOf text)) ∙ ap (λ k. 4 * k) (deals-counted number 2 (linesOf text))
+
+-- the second part of a list that is made of parts
+part-behind : (n k : ℕ) (first second rest : List ℕ) → length first ≡ n → length second ≡ k → take k (drop n ((first ++ second) ++ rest)) ≡ second
+part-behind n k first second rest e h =
+    ap (λ xs. take k (drop n xs)) (append-assoc first second rest)
+    ∙ ap (take k) (drop-at first (second ++ rest) n e)
+    ∙ take-at second rest k h
+
+module _ (before own after list : List ℕ) (b : ended before ≡ true) (f : Follows own after) (s : StartsDeal own) (t : StartsDeal after) where
+  abbrev book : List ℕ
+  book = header ++ (before ++ (own ++ after))
+
+  abbrev ownAnswers : List ℕ
+  ownAnswers = answersTo (1 + dealsIn before) (2 + linesIn before) own
+
+  abbrev later : List ℕ
+  later = answersTo (1 + dealsIn before + dealsIn own) (2 + linesIn before + linesIn own) after
+
+  all-answers : answersTo 1 2 (before ++ (own ++ after)) ≡ (answersTo 1 2 before ++ ownAnswers) ++ later
+  all-answers =
+      answers-follow 1 2 before (own ++ after) (inl b) (starts-follow own after f s t)
+      ∙ ap (λ xs. answersTo 1 2 before ++ xs) (answers-follow (1 + dealsIn before) (2 + linesIn before) own after f t)
+      ∙ sym (append-assoc (answersTo 1 2 before) ownAnswers later)
+
+  -- "In an accepted book no other line but the header affects its answer, save by being counted in serials and line numbers": the answers to
+  -- the deals of a part of a book are made from that part, the serial of its first deal and the number of its first line
+  pub answers-apart : bookRefusal book (length list) ≡ 0 → take (4 * dealsIn own) (drop (4 * dealsIn before) (resultsAfter book list)) ≡ ownAnswers
+  answers-apart h =
+      let rest = drop (length (answersTo 1 2 (before ++ (own ++ after)))) list in
+      ap (λ xs. take (4 * dealsIn own) (drop (4 * dealsIn before) xs)) (
+        accepted-results book list h
+        ∙ ap (λ xs. xs ++ rest) all-answers
+        ∙ append-assoc (answersTo 1 2 before ++ ownAnswers) later rest
+      )
+      ∙ part-behind (4 * dealsIn before) (4 * dealsIn own) (answersTo 1 2 before) ownAnswers (later ++ rest) (to-long 1 2 before) (to-long (1 + dealsIn before) (2 + linesIn before) own)
+
+-- so the other lines may be replaced by any others with as many lines and deals before this part
+pub answers-unmoved : (before before′ own after after′ list list′ : List ℕ)
+    → ended before ≡ true → ended before′ ≡ true → Follows own after → Follows own after′ → StartsDeal own → StartsDeal after → StartsDeal after′
+    → linesIn before ≡ linesIn before′ → dealsIn before ≡ dealsIn before′
+    → bookRefusal (header ++ (before ++ (own ++ after))) (length list) ≡ 0
+    → bookRefusal (header ++ (before′ ++ (own ++ after′))) (length list′) ≡ 0
+    → take (4 * dealsIn own) (drop (4 * dealsIn before) (resultsAfter (header ++ (before ++ (own ++ after))) list))
+    ≡ take (4 * dealsIn own) (drop (4 * dealsIn before′) (resultsAfter (header ++ (before′ ++ (own ++ after′))) list′))
+answers-unmoved before before′ own after after′ list list′ b b′ f f′ s t t′ lines deals h h′ =
+    answers-apart before own after list b f s t h
+    ∙ ap (λ k. answersTo (1 + k) (2 + linesIn before) own) deals
+    ∙ ap (λ n. answersTo (1 + dealsIn before′) (2 + n) own) lines
+    ∙ sym (answers-apart before′ own after′ list′ b′ f′ s t′ h′)
+
+-- and a book with one more deal at its end, or several, keeps the earlier answers
+pub earlier-kept : (text more list : List ℕ) → ended text ≡ true → StartsDeal more
+    → bookRefusal (header ++ text) (length list) ≡ 0 → bookRefusal (header ++ (text ++ more)) (length list) ≡ 0
+    → take (4 * dealsIn text) (resultsAfter (header ++ (text ++ more)) list) ≡ take (4 * dealsIn text) (resultsAfter (header ++ text) list)
+earlier-kept text more list e s h h′ =
+    let long = to-long 1 2 text in
+    let new = answersTo (1 + dealsIn text) (2 + linesIn text) more in
+    let rest = drop (length (answersTo 1 2 (text ++ more))) list in
+    ap (take (4 * dealsIn text)) (
+      accepted-results (header ++ (text ++ more)) list h′
+      ∙ ap (λ xs. xs ++ rest) (answers-follow 1 2 text more (inl e) s)
+      ∙ append-assoc (answersTo 1 2 text) new rest
+    )
+    ∙ take-at (answersTo 1 2 text) (new ++ rest) (4 * dealsIn text) long
+    ∙ sym (ap (take (4 * dealsIn text)) (accepted-results (header ++ text) list h) ∙ take-at (answersTo 1 2 text) _ (4 * dealsIn text) long)

@@ -1,0 +1,91 @@
+-- Books answered by the definitions themselves: the example of 01, and small ones. Assumes nothing.
+use Prim.Native.Nat.{ℕ}
+use mathlib.Core.Path.{_≡_, refl}
+use mathlib.Core.List.{List, [], _∷_, _++_, map}
+use lib.ListN.{replicate}
+use Rattle.base.specs.Choice.{if_then_else_}
+use Rattle.base.specs.FirstMet.{firstOr}
+use Rattle.base.specs.Range.{within}
+use Rattle.text.specs.Bytes.{bytes}
+use Rattle.text.specs.Decimal.{decimalFrom}
+use Rattle.text.specs.Text.{startsWith, extendFirst, linesOf}
+use Rattle.deal.specs.Deals.{openedDeal, addCollateralTests, addCollateralRefusal, withCollateral, addGuaranteeTests, addGuaranteeRefusal, withGuarantee}
+use Rattle.relief.proofs.Computed.{computed}
+use Rattle.lines.specs.Numbers.{digitsOf, numberAllowed, numberRead, numberOf}
+use Rattle.lines.specs.Fields.{fieldOf, isEnd, andThen, withNumber, fieldsOf}
+use Rattle.lines.specs.Lines.{dealLine, collateralLine, guaranteeLine, ifRead, lineOf}
+use Rattle.book.specs.Deals.{ownLines, dealsFrom}
+use Rattle.book.specs.Answers.{openingRefusal, openedBy, itemRefusal, withItem, refusedAt, reported, itemsAnswer, dealAnswer, answersFrom}
+use Rattle.book.specs.Book.{bookTests, bookRefusal, answeredDeals, bookReply, resultsAfter}
+use Rattle.book.specs.declared.reply.Reply.{Reply}
+
+-- `unfolding worked` opens every definition that an answer comes from
+unfoldable worked : List ℕ → List ℕ → List ℕ
+unfolding computed openedDeal addCollateralTests addCollateralRefusal withCollateral addGuaranteeTests addGuaranteeRefusal withGuarantee firstOr within if_then_else_ startsWith extendFirst linesOf decimalFrom digitsOf numberAllowed numberRead numberOf fieldOf isEnd andThen withNumber fieldsOf dealLine collateralLine guaranteeLine ifRead lineOf ownLines dealsFrom openingRefusal openedBy itemRefusal withItem refusedAt reported itemsAnswer dealAnswer answersFrom bookTests bookRefusal answeredDeals bookReply resultsAfter
+worked book before = resultsAfter book before
+
+abbrev example : List ℕ
+example =
+    bytes "CRM\t1\nD\t1000000\t3\t0\t978\t3\t1\t1800\t1\t0\t0\n"
+    ++ bytes "C\t400000\t2\t1\t720\t978\t1800\t1800\t1\t1\t1\t0\n"
+    ++ bytes "G\t200000\t1\t1\t978\t1800\t1800\t1\t1\t1\n"
+    ++ bytes "D\t500\t2\t7\t840\t1\t1\t30\t1\t0\t0\nD\t900\t4\t0\t978\t3\t1\t90\t1\t0\t0\n"
+
+example-answered : resultsAfter example (replicate 13 7) ≡ 1 ∷ 0 ∷ 611314 ∷ 411314 ∷ 2 ∷ 3 ∷ 5 ∷ 0 ∷ 3 ∷ 0 ∷ 900 ∷ 675 ∷ 7 ∷ []
+unfolding worked
+example-answered = refl
+
+abbrev refusedBy : ℕ → Reply
+refusedBy refusal = record { refusal = refusal; deals = 0 }
+
+abbrev accepted : ℕ → Reply
+accepted deals = record { refusal = 0; deals = deals }
+
+-- the header alone asks for no place
+header-alone : (bookReply (bytes "CRM\t1\n") 0 ≡ accepted 0) × (resultsAfter (bytes "CRM\t1\n") [] ≡ [])
+unfolding worked
+header-alone = (refl, refl)
+
+-- no line, no line feed, a carriage return, another header, a second line that opens no deal; three places for a deal
+books-refused :
+    map (λ book. bookReply book 3) (
+      bytes ""
+      ∷ bytes "CRM\t1"
+      ∷ bytes "CRM\t1\r\n"
+      ∷ bytes "CRM\t2\n"
+      ∷ bytes "CRM\t1\nC\t0\n"
+      ∷ bytes "CRM\t1\n\n"
+      ∷ bytes "CRM\t1\nD\n"
+      ∷ bytes "CRM\t1\nC\nD\t\n"
+      ∷ bytes "CRM\t1\nD\t0\t1\t0\t1\t1\t1\t1\t1\t0\t0\n"
+      ∷ []
+    )
+    ≡ refusedBy 9 ∷ refusedBy 9 ∷ refusedBy 9 ∷ refusedBy 9 ∷ refusedBy 12 ∷ refusedBy 12 ∷ refusedBy 12 ∷ refusedBy 12 ∷ refusedBy 13 ∷ []
+unfolding worked
+books-refused = refl
+
+list-untouched : resultsAfter (bytes "CRM\t1\nD\t0\t1\t0\t1\t1\t1\t1\t1\t0\t0\n") (7 ∷ 8 ∷ 9 ∷ []) ≡ 7 ∷ 8 ∷ 9 ∷ []
+unfolding worked
+list-untouched = refl
+
+-- one deal in each, answered by its first refused line: an amount over the limit, with a bad field too, behind the header; a line that
+-- opens no deal, an item refused, both; a line of one more deal that cannot be read
+first-refused :
+    map (λ book. resultsAfter book (replicate 4 7)) (
+      bytes "CRM\t1\nD\t1000000000001\t1\t0\t1\t1\t1\t1\t1\t0\t0\nG\n"
+      ∷ bytes "CRM\t1\nD\t1000000000001\t1\t0\t1\t1\t1\t1\t1\t00\t0\n"
+      ∷ bytes "CRM\t1\nD\t0\t1\t0\t1\t1\t1\t1\t1\t0\t0\nCRM\t1\n"
+      ∷ bytes "CRM\t1\nD\t0\t1\t0\t1\t1\t1\t1\t1\t0\t0\nC\t0\t1\t0\t0\t1\t2\t1\t1\t1\t1\t2\n\n"
+      ∷ bytes "CRM\t1\nD\t0\t1\t0\t1\t1\t1\t1\t1\t0\t0\n\nC\t0\t1\t0\t0\t1\t2\t1\t1\t1\t1\t2\n"
+      ∷ bytes "CRM\t1\nD\t0\t1\t0\t1\t1\t1\t1\t1\t0\t0"
+      ∷ []
+    )
+    ≡ (1 ∷ 1 ∷ 2 ∷ 0 ∷ [])
+    ∷ (1 ∷ 11 ∷ 2 ∷ 0 ∷ [])
+    ∷ (1 ∷ 11 ∷ 3 ∷ 0 ∷ [])
+    ∷ (1 ∷ 7 ∷ 3 ∷ 0 ∷ [])
+    ∷ (1 ∷ 11 ∷ 3 ∷ 0 ∷ [])
+    ∷ (1 ∷ 11 ∷ 2 ∷ 0 ∷ [])
+    ∷ []
+unfolding worked
+first-refused = refl
