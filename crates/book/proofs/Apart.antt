@@ -9,13 +9,14 @@ use lib.Dec.{eqb}
 use lib.ListN.{length, take, drop, length-append}
 use lib.Seq.{take-at, drop-at}
 use Rattle.base.specs.All.{all}
-use Rattle.text.specs.Text.{linesOf}
-use Rattle.text.proofs.Lines.{ended, lines-append, no-lines}
+use Rattle.text.specs.Text.{linesOf, ended}
+use Rattle.text.proofs.Lines.{lines-append, no-lines}
 use Rattle.deal.specs.declared.deal.Deal.{Deal}
 use Rattle.lines.specs.Lines.{lineOf}
 use Rattle.book.specs.Deals.{DealLines, opensDeal, dealsFrom}
 use Rattle.book.specs.Answers.{dealAnswer, answersFrom}
 use Rattle.book.specs.Working.{answerAfter}
+use Rattle.book.specs.Parts.{dealsIn, linesIn, StartsDeal, answersTo, Follows}
 use Rattle.book.specs.Book.{header, dealsOf, bookRefusal, resultsAfter}
 use Rattle.book.specs.declared.progress.Progress.{Progress}
 use Rattle.book.proofs.Answering.{answer-opened, answer-followed, answer-refused, answer-accepted, refused-answer, no-more-items, no-answers, answers-more}
@@ -49,25 +50,6 @@ answers-append serial (d ∷ ds) es =
     ∙ ap (λ xs. serial ∷ (dealAnswer d ++ xs)) (answers-append (serial + 1) ds es ∙ ap (λ n. answersFrom (serial + 1) ds ++ answersFrom n es) e)
     ∙ ap (λ xs. serial ∷ xs) (sym (append-assoc (dealAnswer d) (answersFrom (serial + 1) ds) (answersFrom (serial + suc (length ds)) es)))
     ∙ ap (λ xs. xs ++ answersFrom (serial + suc (length ds)) es) (sym (answers-more serial d ds))
-
--- how many deals and lines a text has
-abbrev pub dealsIn : List ℕ → ℕ
-dealsIn text = length (dealsFrom 2 (linesOf text))
-
-abbrev pub linesIn : List ℕ → ℕ
-linesIn text = length (linesOf text)
-
--- a text whose first line, if it has one, opens a deal
-abbrev pub StartsDeal : List ℕ → Type 0
-StartsDeal text = all (take 1 (linesOf text)) opensDeal ≡ true
-
--- the answers to the deals of a text, where the first has this serial, and its first line this number
-abbrev pub answersTo : ℕ → ℕ → List ℕ → List ℕ
-answersTo serial number text = answersFrom serial (dealsFrom number (linesOf text))
-
--- nothing follows, or what follows starts a new line
-abbrev pub Follows : List ℕ → List ℕ → Type 0
-Follows first second = (ended first ≡ true) ⊎ (second ≡ [])
 
 lines-follow : (first second : List ℕ) → Follows first second → linesOf (first ++ second) ≡ linesOf first ++ linesOf second
 lines-follow first second f = ⊎-elim (lines-append first second) nothing f
@@ -122,9 +104,9 @@ module _ (before own after list : List ℕ) (b : ended before ≡ true) (f : Fol
   answers-apart h =
       let rest = drop (length (answersTo 1 2 (before ++ (own ++ after)))) list in
       ap (λ xs. take (4 * dealsIn own) (drop (4 * dealsIn before) xs)) (
-        accepted-results book list h
-        ∙ ap (λ xs. xs ++ rest) all-answers
-        ∙ append-assoc (answersTo 1 2 before ++ ownAnswers) later rest
+      accepted-results book list h
+      ∙ ap (λ xs. xs ++ rest) all-answers
+      ∙ append-assoc (answersTo 1 2 before ++ ownAnswers) later rest
       )
       ∙ part-behind (4 * dealsIn before) (4 * dealsIn own) (answersTo 1 2 before) ownAnswers (later ++ rest) (to-long 1 2 before) (to-long (1 + dealsIn before) (2 + linesIn before) own)
 
@@ -151,9 +133,9 @@ earlier-kept text more list e s h h′ =
     let new = answersTo (1 + dealsIn text) (2 + linesIn text) more in
     let rest = drop (length (answersTo 1 2 (text ++ more))) list in
     ap (take (4 * dealsIn text)) (
-      accepted-results (header ++ (text ++ more)) list h′
-      ∙ ap (λ xs. xs ++ rest) (answers-follow 1 2 text more (inl e) s)
-      ∙ append-assoc (answersTo 1 2 text) new rest
+    accepted-results (header ++ (text ++ more)) list h′
+    ∙ ap (λ xs. xs ++ rest) (answers-follow 1 2 text more (inl e) s)
+    ∙ append-assoc (answersTo 1 2 text) new rest
     )
     ∙ take-at (answersTo 1 2 text) (new ++ rest) (4 * dealsIn text) long
     ∙ sym (ap (take (4 * dealsIn text)) (accepted-results (header ++ text) list h) ∙ take-at (answersTo 1 2 text) _ (4 * dealsIn text) long)

@@ -49,16 +49,16 @@ header-alone = (refl, refl)
 -- no line, no line feed, a carriage return, another header, a second line that opens no deal; three places for a deal
 books-refused :
     map (λ book. bookReply book 3) (
-      bytes ""
-      ∷ bytes "CRM\t1"
-      ∷ bytes "CRM\t1\r\n"
-      ∷ bytes "CRM\t2\n"
-      ∷ bytes "CRM\t1\nC\t0\n"
-      ∷ bytes "CRM\t1\n\n"
-      ∷ bytes "CRM\t1\nD\n"
-      ∷ bytes "CRM\t1\nC\nD\t\n"
-      ∷ bytes "CRM\t1\nD\t0\t1\t0\t1\t1\t1\t1\t1\t0\t0\n"
-      ∷ []
+    bytes ""
+    ∷ bytes "CRM\t1"
+    ∷ bytes "CRM\t1\r\n"
+    ∷ bytes "CRM\t2\n"
+    ∷ bytes "CRM\t1\nC\t0\n"
+    ∷ bytes "CRM\t1\n\n"
+    ∷ bytes "CRM\t1\nD\n"
+    ∷ bytes "CRM\t1\nC\nD\t\n"
+    ∷ bytes "CRM\t1\nD\t0\t1\t0\t1\t1\t1\t1\t1\t0\t0\n"
+    ∷ []
     )
     ≡ refusedBy 9 ∷ refusedBy 9 ∷ refusedBy 9 ∷ refusedBy 9 ∷ refusedBy 12 ∷ refusedBy 12 ∷ refusedBy 12 ∷ refusedBy 12 ∷ refusedBy 13 ∷ []
 unfolding worked
@@ -72,13 +72,13 @@ list-untouched = refl
 -- opens no deal, an item refused, both; a line of one more deal that cannot be read
 first-refused :
     map (λ book. resultsAfter book (replicate 4 7)) (
-      bytes "CRM\t1\nD\t1000000000001\t1\t0\t1\t1\t1\t1\t1\t0\t0\nG\n"
-      ∷ bytes "CRM\t1\nD\t1000000000001\t1\t0\t1\t1\t1\t1\t1\t00\t0\n"
-      ∷ bytes "CRM\t1\nD\t0\t1\t0\t1\t1\t1\t1\t1\t0\t0\nCRM\t1\n"
-      ∷ bytes "CRM\t1\nD\t0\t1\t0\t1\t1\t1\t1\t1\t0\t0\nC\t0\t1\t0\t0\t1\t2\t1\t1\t1\t1\t2\n\n"
-      ∷ bytes "CRM\t1\nD\t0\t1\t0\t1\t1\t1\t1\t1\t0\t0\n\nC\t0\t1\t0\t0\t1\t2\t1\t1\t1\t1\t2\n"
-      ∷ bytes "CRM\t1\nD\t0\t1\t0\t1\t1\t1\t1\t1\t0\t0"
-      ∷ []
+    bytes "CRM\t1\nD\t1000000000001\t1\t0\t1\t1\t1\t1\t1\t0\t0\nG\n"
+    ∷ bytes "CRM\t1\nD\t1000000000001\t1\t0\t1\t1\t1\t1\t1\t00\t0\n"
+    ∷ bytes "CRM\t1\nD\t0\t1\t0\t1\t1\t1\t1\t1\t0\t0\nCRM\t1\n"
+    ∷ bytes "CRM\t1\nD\t0\t1\t0\t1\t1\t1\t1\t1\t0\t0\nC\t0\t1\t0\t0\t1\t2\t1\t1\t1\t1\t2\n\n"
+    ∷ bytes "CRM\t1\nD\t0\t1\t0\t1\t1\t1\t1\t1\t0\t0\n\nC\t0\t1\t0\t0\t1\t2\t1\t1\t1\t1\t2\n"
+    ∷ bytes "CRM\t1\nD\t0\t1\t0\t1\t1\t1\t1\t1\t0\t0"
+    ∷ []
     )
     ≡ (1 ∷ 1 ∷ 2 ∷ 0 ∷ [])
     ∷ (1 ∷ 11 ∷ 2 ∷ 0 ∷ [])

@@ -1,4 +1,5 @@
 pub mod Answers
 pub mod Book
 pub mod Deals
+pub mod Parts
 pub mod Working

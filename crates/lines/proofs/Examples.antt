@@ -20,18 +20,18 @@ use Rattle.lines.specs.declared.line.Line.the-variants.{DealLine, Collat
 abbrev numbers : List Number
 numbers =
     map numberOf (
-      bytes "0"
-      ∷ bytes "7"
-      ∷ bytes "9999999999999"
-      ∷ bytes "12\t"
-      ∷ bytes "12\n"
-      ∷ bytes "10000000000000"
-      ∷ bytes "01"
-      ∷ bytes "00"
-      ∷ bytes ""
-      ∷ bytes "-1"
-      ∷ bytes "+1"
-      ∷ []
+    bytes "0"
+    ∷ bytes "7"
+    ∷ bytes "9999999999999"
+    ∷ bytes "12\t"
+    ∷ bytes "12\n"
+    ∷ bytes "10000000000000"
+    ∷ bytes "01"
+    ∷ bytes "00"
+    ∷ bytes ""
+    ∷ bytes "-1"
+    ∷ bytes "+1"
+    ∷ []
     )
 
 numbers-read : numbers ≡ Value 0 1 ∷ Value 7 1 ∷ Value 9999999999999 13 ∷ Value 12 2 ∷ Value 12 2 ∷ replicate 6 NoNumber
@@ -67,10 +67,10 @@ said =
 
 lines-read :
     map lineOf (
-      bytes "D\t1000000\t3\t0\t978\t3\t1\t1800\t1\t0\t0\n"
-      ∷ bytes "C\t400000\t2\t1\t720\t978\t1800\t1800\t1\t1\t1\t0\n"
-      ∷ bytes "G\t200000\t1\t1\t978\t1800\t1800\t1\t1\t1\n"
-      ∷ []
+    bytes "D\t1000000\t3\t0\t978\t3\t1\t1800\t1\t0\t0\n"
+    ∷ bytes "C\t400000\t2\t1\t720\t978\t1800\t1800\t1\t1\t1\t0\n"
+    ∷ bytes "G\t200000\t1\t1\t978\t1800\t1800\t1\t1\t1\n"
+    ∷ []
     )
     ≡ said
 unfolding lineOf dealLine collateralLine guaranteeLine ifRead fieldsOf withNumber andThen isEnd fieldOf numberOf numberRead numberAllowed digitsOf decimalFrom within if_then_else_

@@ -13,7 +13,7 @@ use Rattle.base.specs.All.{all}
 use Rattle.base.proofs.Every.{both}
 use Rattle.base.proofs.Tests.{told-not-false}
 use Rattle.base.proofs.Choice.{if-true, if-false, never}
-use Rattle.text.specs.Text.{lineFeed, startsWith, firstLine, extendFirst, linesOf}
+use Rattle.text.specs.Text.{lineFeed, startsWith, firstLine, extendFirst, linesOf, ended}
 
 -- where a byte is a line feed, and where it is none
 module _ (b : ℕ) (bs : List ℕ) where
@@ -83,13 +83,7 @@ lines-first b (c ∷ cs) = go (lines-first c cs) (eqb b lineFeed) refl
     go h true e = rw (lines-fed b (c ∷ cs) e, first-fed b (c ∷ cs) e)
     go h false e = rw (lines-unfed b (c ∷ cs) e, first-unfed b (c ∷ cs) e, h)
 
--- a text that ends in a line feed, or is empty, so that what follows it starts a line
-unfoldable pub ended : List ℕ → Bool
-ended [] = true
-ended (b ∷ []) = eqb b lineFeed
-ended (b ∷ c ∷ bs) = ended (c ∷ bs)
-
--- such a text and another have the lines of both
+-- a text that ends in a line feed and another have the lines of both
 pub lines-append : (a b : List ℕ) → ended a ≡ true → linesOf (a ++ b) ≡ linesOf a ++ linesOf b
 unfolding extendFirst ended
 lines-append [] b h = rw no-lines

@@ -19,17 +19,24 @@ startsWith [] text = true
 startsWith (p ∷ ps) [] = false
 startsWith (p ∷ ps) (b ∷ bs) = eqb b p && startsWith ps bs
 
--- "Lines end in a line feed". A line has its line feed as its last byte; only the last line of a text may be without one
-unfoldable pub firstLine : List ℕ → List ℕ
-firstLine [] = []
-firstLine (b ∷ bs) = if eqb b lineFeed then b ∷ [] else b ∷ firstLine bs
-
--- a line whose first byte is given, and the lines behind it
+-- the first line with one byte more in front of it
 unfoldable pub extendFirst : ℕ → List (List ℕ) → List (List ℕ)
 extendFirst b [] = (b ∷ []) ∷ []
 extendFirst b (line ∷ lines) = (b ∷ line) ∷ lines
 
--- all lines of a text. Behind a last line feed there is no line
+-- "Lines end in a line feed". Each line has its line feed as its last byte; only the last line of a text may be without one, and behind
+-- a last line feed there is no line
 unfoldable pub linesOf : List ℕ → List (List ℕ)
 linesOf [] = []
 linesOf (b ∷ bs) = if eqb b lineFeed then (b ∷ []) ∷ linesOf bs else extendFirst b (linesOf bs)
+
+-- the first of them, empty where there is none
+unfoldable pub firstLine : List ℕ → List ℕ
+firstLine [] = []
+firstLine (b ∷ bs) = if eqb b lineFeed then b ∷ [] else b ∷ firstLine bs
+
+-- a text that ends in a line feed, or is empty, so that what follows it starts a line
+unfoldable pub ended : List ℕ → Bool
+ended [] = true
+ended (b ∷ []) = eqb b lineFeed
+ended (b ∷ c ∷ bs) = ended (c ∷ bs)

@@ -133,9 +133,12 @@ answer-deal-requires : tie.Need-answer-deal-requires Inv-loop μ-loop
 answer-deal-requires c κs =
     let l = c .before .before .loop in
     let lines = c .before .before .before .before .before .args .lines .now in
+    let part = rest-part lines (l .at) in
     let long = length-drop (l .at) lines in
-    let h : 1 ≤ length (drop (l .at) lines) = omega (arith, long, c .before .loop-test .taken) in
-    rw (rest-part lines (l .at)) (own-opens (drop (l .at) lines) (l .inv .begins) h, omega (arith, long, l .inv .numbered, c .before .before .before .before .before .pre .1 .0, c .before .loop-test .taken))
+    let h : 1 ≤ length (drop (l .at) lines) = omega (arith, long, c .before .loop-test .taken) in (
+      ap opensDeal part ∙ own-opens (drop (l .at) lines) (l .inv .begins) h,
+      omega (arith, ap length part, long, l .inv .numbered, c .before .before .before .before .before .pre .1 .0, c .before .loop-test .taken),
+    )
 
 -- the deal that was read, and that its numbers are small
 module _ (c : tie.After-answer-deal Inv-loop μ-loop) where

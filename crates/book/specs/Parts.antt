@@ -1,0 +1,30 @@
+-- Parts of a book's text, for the claims about deals that stand together in one book. 01: The book
+use Prim.Native.Nat.{ℕ}
+use mathlib.Core.Bool.{true}
+use mathlib.Core.List.{List, []}
+use mathlib.Core.Logic.{_⊎_}
+use mathlib.Core.Path.{_≡_}
+use lib.ListN.{length, take}
+use Rattle.base.specs.All.{all}
+use Rattle.text.specs.Text.{linesOf, ended}
+use Rattle.book.specs.Deals.{opensDeal, dealsFrom}
+use Rattle.book.specs.Answers.{answersFrom}
+
+-- how many deals and lines a text has
+abbrev pub dealsIn : List ℕ → ℕ
+dealsIn text = length (dealsFrom 2 (linesOf text))
+
+abbrev pub linesIn : List ℕ → ℕ
+linesIn text = length (linesOf text)
+
+-- a text whose first line, if it has one, opens a deal
+abbrev pub StartsDeal : List ℕ → Type 0
+StartsDeal text = all (take 1 (linesOf text)) opensDeal ≡ true
+
+-- the answers to the deals of a text, where the first has this serial, and its first line this number
+abbrev pub answersTo : ℕ → ℕ → List ℕ → List ℕ
+answersTo serial number text = answersFrom serial (dealsFrom number (linesOf text))
+
+-- nothing follows, or what follows starts a new line
+abbrev pub Follows : List ℕ → List ℕ → Type 0
+Follows first second = (ended first ≡ true) ⊎ (second ≡ [])
