@@ -1,5 +1,5 @@
 -- A deal's answer depends on its own lines, its serial and its line number, and on nothing else in the book. Assumes nothing.
-use Prim.Native.Nat.{ℕ, zero, suc, _+_, _*_, _≤_}
+use Prim.Native.Nat.{ℕ, suc, _+_, _*_}
 use mathlib.Core.Path.{_≡_, refl, sym, _∙_, ap}
 use mathlib.Core.Bool.{Bool, true, false}
 use mathlib.Core.List.{List, [], _∷_, _++_, append-assoc, append-nil}
@@ -12,15 +12,14 @@ use Rattle.base.specs.All.{all}
 use Rattle.text.specs.Text.{linesOf, ended}
 use Rattle.text.proofs.Lines.{lines-append, no-lines}
 use Rattle.deal.specs.declared.deal.Deal.{Deal}
-use Rattle.lines.specs.Lines.{lineOf}
 use Rattle.book.specs.Deals.{DealLines, opensDeal, dealsFrom}
 use Rattle.book.specs.Answers.{dealAnswer, answersFrom}
 use Rattle.book.specs.Working.{answerAfter}
 use Rattle.book.specs.Parts.{dealsIn, linesIn, StartsDeal, answersTo, Follows}
-use Rattle.book.specs.Book.{header, dealsOf, bookRefusal, resultsAfter}
+use Rattle.book.specs.Book.{header, bookRefusal, resultsAfter}
 use Rattle.book.specs.declared.progress.Progress.{Progress}
 use Rattle.book.proofs.Answering.{answer-opened, answer-followed, answer-refused, answer-accepted, refused-answer, no-more-items, no-answers, answers-more}
-use Rattle.book.proofs.Grouping.{deals-append, deals-counted, no-deals}
+use Rattle.book.proofs.Grouping.{deals-append, deals-counted}
 use Rattle.book.proofs.Refusing.{accepted-results}
 
 -- a deal's answer is three numbers behind its serial

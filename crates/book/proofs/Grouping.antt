@@ -4,10 +4,8 @@ use mathlib.Core.Path.{_≡_, refl, sym, _∙_, ap}
 use mathlib.Core.Bool.{Bool, true, false, not}
 use mathlib.Core.List.{List, [], _∷_, _++_}
 use native.Mathlib.Omega.{arith}
-use lib.Dec.{eqb}
 use lib.ListN.{length, take, drop, drop-of-length-le}
 use lib.Seq.{drop-cons}
-use Rattle.base.specs.Choice.{if_then_else_}
 use Rattle.base.specs.All.{all}
 use Rattle.base.proofs.Every.{both}
 use Rattle.base.proofs.Choice.{if-true, if-false, never}
@@ -41,11 +39,11 @@ module _ (line : List ℕ) (lines : List (List ℕ)) where
   unfolding ownLines
   own-more h = if-false _ _ _ h
 
-  pub own-end : opensDeal line ≡ true → ownLines (line ∷ lines) ≡ []
+  own-end : opensDeal line ≡ true → ownLines (line ∷ lines) ≡ []
   unfolding ownLines
   own-end h = if-true _ _ _ h
 
-pub no-own : ownLines [] ≡ []
+no-own : ownLines [] ≡ []
 unfolding ownLines
 no-own = refl
 
@@ -96,7 +94,7 @@ deals-counted m n (line ∷ lines) = go (deals-counted (m + 1) (n + 1) lines) (o
     go h false e = rw (deals-pass m line lines e, deals-pass n line lines e, h)
 
 -- lines that start with a deal, if there are any, are no one else's own
-pub own-append : (ls ms : List (List ℕ)) → all (take 1 ms) opensDeal ≡ true → ownLines (ls ++ ms) ≡ ownLines ls
+own-append : (ls ms : List (List ℕ)) → all (take 1 ms) opensDeal ≡ true → ownLines (ls ++ ms) ≡ ownLines ls
 own-append [] [] h = refl
 own-append [] (m ∷ ms) h = own-end m ms (both (opensDeal m) true h .0) ∙ sym no-own
 own-append (l ∷ ls) ms h = go (own-append ls ms h) (opensDeal l) refl

@@ -1,3 +1,4 @@
+pub mod Accepted
 pub mod Answering
 pub mod Apart
 pub mod Examples

@@ -1,14 +1,13 @@
 -- Laws of a book's refusals. Assumes nothing.
-use Prim.Native.Nat.{ℕ, _*_}
-use mathlib.Core.Path.{_≡_, refl, sym, _∙_, ap}
+use Prim.Native.Nat.{ℕ}
+use mathlib.Core.Path.{_≡_, refl, _∙_, ap}
 use mathlib.Core.Bool.{Bool, true, false, not, _&&_}
 use mathlib.Core.List.{List, [], _∷_}
 use lib.Dec.{eqb}
-use lib.ListN.{length, take, drop}
+use lib.ListN.{length, take}
 use Rattle.base.specs.All.{all}
-use Rattle.base.specs.Choice.{if_then_else_}
 use Rattle.base.proofs.Choice.{if-true, if-false}
-use Rattle.base.proofs.FirstMet.{NoneMet, none-exactly}
+use Rattle.base.proofs.FirstMet.{NoneMet, Exact, exact, none-exactly}
 use Rattle.text.specs.Text.{firstLine, linesOf}
 use Rattle.text.proofs.Lines.{lines-first, no-lines}
 use Rattle.book.specs.Deals.{opensDeal}
@@ -32,11 +31,11 @@ second-wrong (b ∷ bs) =
 
 module _ (book : List ℕ) (places : ℕ) where
   -- a refused book has no deals answered
-  pub none-answered : eqb (bookRefusal book places) 0 ≡ false → answeredDeals book places ≡ []
+  none-answered : eqb (bookRefusal book places) 0 ≡ false → answeredDeals book places ≡ []
   unfolding answeredDeals
   none-answered e = if-false _ _ _ e
 
-  pub all-answered : eqb (bookRefusal book places) 0 ≡ true → answeredDeals book places ≡ dealsOf book
+  all-answered : eqb (bookRefusal book places) 0 ≡ true → answeredDeals book places ≡ dealsOf book
   unfolding answeredDeals
   all-answered e = if-true _ _ _ e
 
@@ -55,6 +54,11 @@ module _ (book : List ℕ) (places : ℕ) where
   pub reply-refusal : bookReply book places .refusal ≡ bookRefusal book places
   unfolding bookReply
   reply-refusal = refl
+
+  -- each refusal exactly where its own test is met and none before it
+  pub book-exact : Exact (bookTests book places)
+  unfolding bookTests
+  book-exact = exact (bookTests book places) refl
 
   -- an accepted book meets no test
   pub accepted-tests : bookRefusal book places ≡ 0 → NoneMet (bookTests book places)

@@ -23,11 +23,6 @@ module _ (at : ℕ) (s l : List ℕ) where
   front : at ≤ length l → length (take at l ++ s) ≡ at + length s
   front h = length-append (take at l) s ∙ ap (λ (k : ℕ). k + length s) (length-take-le at l h)
 
-  -- a buffer keeps its length
-  pub placed-length : at + length s ≤ length l → length (placedAt at s l) ≡ length l
-  unfolding placedAt
-  placed-length h = omega (arith, front (omega arith), length-append (take at l ++ s) (drop (at + length s) l), length-drop (at + length s) l)
-
   -- two texts, one behind the other, are their concatenation
   more : (t : List ℕ) → at ≤ length l → placedAt (at + length s) t (placedAt at s l) ≡ placedAt at (s ++ t) l
   unfolding placedAt

@@ -1,14 +1,13 @@
 -- Laws of the lines of a text. Assumes nothing.
-use Prim.Native.Nat.{ℕ, zero, suc, _+_, _-_, _≤_, _<_}
+use Prim.Native.Nat.{ℕ, suc, _+_, _-_, _≤_, _<_}
 use mathlib.Core.Path.{_≡_, refl, sym, _∙_, ap}
-use mathlib.Core.Bool.{Bool, true, false, not, _&&_}
+use mathlib.Core.Bool.{Bool, true, false, not}
 use mathlib.Core.List.{List, [], _∷_, _++_}
 use native.Mathlib.Omega.{arith}
 use borrow.Author.Tests.{eqb-true, eqb-false, ne-eqb}
 use lib.Dec.{eqb}
 use lib.ListN.{length, take, drop, getD, length-take, length-drop, drop-of-length-le}
 use lib.Seq.{drop-cons, drop-drop, take-all}
-use Rattle.base.specs.Choice.{if_then_else_}
 use Rattle.base.specs.All.{all}
 use Rattle.base.proofs.Every.{both}
 use Rattle.base.proofs.Tests.{told-not-false}
@@ -60,7 +59,7 @@ first-inside text =
 
 -- a text that is not empty has a first line that is not, and the lines behind it
 module _ (b : ℕ) (bs : List ℕ) where
-  pub first-some : 1 ≤ length (firstLine (b ∷ bs))
+  first-some : 1 ≤ length (firstLine (b ∷ bs))
   first-some = go (eqb b lineFeed) refl
     where
       go : (t : Bool) → eqb b lineFeed ≡ t → 1 ≤ length (firstLine (b ∷ bs))

@@ -1,7 +1,7 @@
 -- `text::line_end` meets its contract: the bytes passed hold no line feed. Assumes nothing.
 use Prim.Native.Nat.{ℕ, _+_, _-_, _≤_, _<_}
-use mathlib.Core.Path.{_≡_, refl, sym, _∙_, ap}
-use mathlib.Core.Bool.{Bool, true, false}
+use mathlib.Core.Path.{_≡_, refl}
+use mathlib.Core.Bool.{true, false}
 use mathlib.Core.List.{List}
 use borrow.Author.Tests.{eq-eqb, ne-eqb}
 use native.Mathlib.Omega.{arith}
@@ -9,7 +9,6 @@ use native.Mathlib.Numerals.{add-one}
 use lib.Dec.{eqb}
 use lib.ListN.{length, drop, getD, drop-of-length-le}
 use lib.Seq.{drop-cons}
-use Rattle.base.specs.Choice.{if_then_else_}
 use Rattle.base.proofs.Choice.{if-true, if-false}
 use Rattle.base.proofs.Tests.{tests}
 use Rattle.text.specs.Text.{firstLine, lineFeed}

@@ -1,8 +1,8 @@
 -- `book::reading::read_deal` meets its contract: the answer so far and the lines to come make the whole one. Assumes nothing.
 use Prim.Native.Nat.{ℕ, _+_, _-_, _≤_, _<_}
-use mathlib.Core.Path.{_≡_, refl, sym, _∙_, ap}
+use mathlib.Core.Path.{_≡_, sym, _∙_, ap}
 use mathlib.Core.Bool.{true, false}
-use mathlib.Core.List.{List, [], _∷_}
+use mathlib.Core.List.{List, _∷_}
 use native.Mathlib.Omega.{arith}
 use lib.ListN.{length, take, drop, length-drop}
 use lib.Seq.{length-take-le}
@@ -10,7 +10,7 @@ use Rattle.base.proofs.Tests.{tests}
 use Rattle.text.specs.Text.{firstLine, linesOf}
 use Rattle.text.proofs.Lines.{lines-at, first-at-some, first-at-inside, first-inside, first-taken, line-part}
 use Rattle.lines.specs.Lines.{lineOf}
-use Rattle.book.specs.Deals.{DealLines, opensDeal, ownLines, dealsFrom}
+use Rattle.book.specs.Deals.{opensDeal, ownLines, dealsFrom}
 use Rattle.book.specs.Answers.{dealAnswer}
 use Rattle.book.specs.Working.{afterOpening, afterItem, answerAfter, firstDeal, ownFirst}
 use Rattle.book.specs.declared.progress.Progress.{Progress}

@@ -1,7 +1,7 @@
 -- `book::reply::reply_to` meets its contract: each test passed leaves the definition's later tests. Assumes nothing.
-use Prim.Native.Nat.{ℕ, _*_, _≤_, _<_}
+use Prim.Native.Nat.{ℕ, _*_, _≤_}
 use mathlib.Core.Path.{_≡_, refl, sym, _∙_, ap}
-use mathlib.Core.Bool.{true, false, not}
+use mathlib.Core.Bool.{true, not}
 use mathlib.Core.List.{List, []}
 use borrow.Author.Tests.{lt-ltb, le-ltb}
 use native.Mathlib.Omega.{arith}
@@ -12,7 +12,7 @@ use Rattle.base.proofs.Tests.{tests, told-not, told-not-true}
 use Rattle.text.specs.Text.{linesOf}
 use Rattle.text.proofs.Lines.{starts-long, rest-part}
 use Rattle.book.specs.Deals.{dealsFrom}
-use Rattle.book.specs.Book.{bookLimit, header, linesBehind, dealsOf, bookTests, bookRefusal}
+use Rattle.book.specs.Book.{bookLimit, header, dealsOf, bookTests, bookRefusal}
 use Rattle.book.proofs.Refusing.{second-wrong, refused-reply, accepted-reply}
 use Rattle.book.proofs.reply.reply_to.Statement.{statement}
 use Rattle.book.proofs.reply.reply_to.Tie as tie

@@ -1,7 +1,6 @@
 -- `crmbook::input::read_input` meets its contract: each read puts its bytes behind those that are there. Assumes the contract of reading.
 use Prim.Native.Nat.{_-_, _≤_}
 use mathlib.Core.Path.{_≡_}
-use native.Mathlib.Omega.{arith}
 use lib.ListN.{length}
 use Rattle.base.proofs.Tests.{tests}
 use Rattle.crmbook.proofs.input.read_input.Statement.{statement}

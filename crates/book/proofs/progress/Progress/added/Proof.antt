@@ -1,7 +1,6 @@
 -- `book::progress::Progress::added` meets its contract. Assumes nothing.
 use Rattle.base.proofs.Tests.{tests}
 use Rattle.book.specs.Answers.{itemRefusal, withItem}
-use Rattle.book.specs.Working.{progressOf}
 use Rattle.book.proofs.progress.Progress.added.Statement.{statement}
 use Rattle.book.proofs.progress.Progress.added.Tie as tie
 

@@ -1,7 +1,7 @@
 -- `book::progress::Progress::opened` meets its contract. Assumes nothing.
 use Rattle.base.proofs.Tests.{tests}
 use Rattle.book.specs.Answers.{openingRefusal, openedBy}
-use Rattle.book.specs.Working.{progressOf, afterOpening}
+use Rattle.book.specs.Working.{afterOpening}
 use Rattle.book.proofs.progress.Progress.opened.Statement.{statement}
 use Rattle.book.proofs.progress.Progress.opened.Tie as tie
 
