@@ -1,4 +1,4 @@
 // Reading a line of a book: the numbers in its fields, and what it says.
-pub mod fields;
+mod fields;
 pub mod line;
-pub mod number;
+mod number;

@@ -5,7 +5,7 @@ use mathlib.Core.List.{List, [], _∷_, _++_, append-assoc, append-nil}
 use native.Mathlib.Nat.{add-zero, add-assoc, add-suc, suc-add}
 use native.Mathlib.Numerals.{add-one}
 use native.Mathlib.Omega.{arith}
-use lib.ListN.{length, take, drop, set, getD, length-append, length-drop, take-append-drop}
+use lib.ListN.{length, take, drop, set, getD, length-append, take-append-drop}
 use lib.Seq.{length-take-le, take-at, drop-at, drop-drop, set-split, set-at, take-suc}
 use Rattle.result.specs.Placed.{placedAt, Placed}
 
