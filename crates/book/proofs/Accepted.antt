@@ -17,7 +17,7 @@ use Rattle.lines.specs.Lines.{lineOf}
 use Rattle.lines.specs.declared.line.Line.{Line}
 use Rattle.lines.specs.declared.line.Line.the-variants.{DealLine, CollateralLine, GuaranteeLine, Malformed}
 use Rattle.book.specs.Deals.{DealLines}
-use Rattle.book.specs.Answers.{openingRefusal, openedBy, itemRefusal, withItem, itemsAnswer, dealAnswer}
+use Rattle.book.specs.Answers.{openingRefusal, openedBy, lineRefusal, withLine, linesAnswer, dealAnswer}
 use Rattle.book.specs.Parts.{Answered, byLine, byReport}
 
 -- a refusal that is 40 only of records that are not accepted
@@ -46,30 +46,30 @@ opening-accepted (CollateralLine c) e = absurd (never e refl)
 opening-accepted (GuaranteeLine g) e = absurd (never e refl)
 opening-accepted Malformed e = absurd (never e refl)
 
-item-not-40 : (d : Deal) (line : Line) → accepted d ≡ true → eqb (itemRefusal d line) 40 ≡ false
-unfolding itemRefusal
-item-not-40 d (CollateralLine c) h = not-40 _ d (collateral-40 d c .0) h
-item-not-40 d (GuaranteeLine g) h = not-40 _ d (guarantee-40 d g .0) h
-item-not-40 d (DealLine t) h = refl
-item-not-40 d Malformed h = refl
+line-not-40 : (d : Deal) (line : Line) → accepted d ≡ true → eqb (lineRefusal d line) 40 ≡ false
+unfolding lineRefusal
+line-not-40 d (CollateralLine c) h = not-40 _ d (collateral-40 d c .0) h
+line-not-40 d (GuaranteeLine g) h = not-40 _ d (guarantee-40 d g .0) h
+line-not-40 d (DealLine t) h = refl
+line-not-40 d Malformed h = refl
 
-item-accepted : (d : Deal) (line : Line) → eqb (itemRefusal d line) 0 ≡ true → accepted (withItem d line) ≡ true
-unfolding itemRefusal withItem
-item-accepted d (CollateralLine c) e = collateral-added-accepted d c (eqb-true _ 0 e)
-item-accepted d (GuaranteeLine g) e = guarantee-added-accepted d g (eqb-true _ 0 e)
-item-accepted d (DealLine t) e = absurd (never e refl)
-item-accepted d Malformed e = absurd (never e refl)
+line-accepted : (d : Deal) (line : Line) → eqb (lineRefusal d line) 0 ≡ true → accepted (withLine d line) ≡ true
+unfolding lineRefusal withLine
+line-accepted d (CollateralLine c) e = collateral-added-accepted d c (eqb-true _ 0 e)
+line-accepted d (GuaranteeLine g) e = guarantee-added-accepted d g (eqb-true _ 0 e)
+line-accepted d (DealLine t) e = absurd (never e refl)
+line-accepted d Malformed e = absurd (never e refl)
 
-items-answered : (number : ℕ) (d : Deal) (lines : List (List ℕ)) → accepted d ≡ true → Answered (itemsAnswer number d lines)
-unfolding itemsAnswer
-items-answered number d [] h = byReport d h refl
-items-answered number d (line ∷ lines) h = go (eqb (itemRefusal d (lineOf line)) 0) refl (items-answered (number + 1) (withItem d (lineOf line)) lines)
+lines-answered : (number : ℕ) (d : Deal) (lines : List (List ℕ)) → accepted d ≡ true → Answered (linesAnswer number d lines)
+unfolding linesAnswer
+lines-answered number d [] h = byReport d h refl
+lines-answered number d (line ∷ lines) h = go (eqb (lineRefusal d (lineOf line)) 0) refl (lines-answered (number + 1) (withLine d (lineOf line)) lines)
   where
-    go : (t : Bool) → eqb (itemRefusal d (lineOf line)) 0 ≡ t
-        → (accepted (withItem d (lineOf line)) ≡ true → Answered (itemsAnswer (number + 1) (withItem d (lineOf line)) lines))
-        → Answered (itemsAnswer number d (line ∷ lines))
-    go true e later = subst Answered (sym (if-true _ _ _ e)) (later (item-accepted d (lineOf line) e))
-    go false e later = byLine (itemRefusal d (lineOf line)) number (if-false _ _ _ e) e (item-not-40 d (lineOf line) h)
+    go : (t : Bool) → eqb (lineRefusal d (lineOf line)) 0 ≡ t
+        → (accepted (withLine d (lineOf line)) ≡ true → Answered (linesAnswer (number + 1) (withLine d (lineOf line)) lines))
+        → Answered (linesAnswer number d (line ∷ lines))
+    go true e later = subst Answered (sym (if-true _ _ _ e)) (later (line-accepted d (lineOf line) e))
+    go false e later = byLine (lineRefusal d (lineOf line)) number (if-false _ _ _ e) e (line-not-40 d (lineOf line) h)
 
 -- so no answer in a book has refusal 40, and none that has refusal 0 reports a record that is not accepted
 pub each-answered : (deal : DealLines) → Answered (dealAnswer deal)
@@ -77,5 +77,5 @@ unfolding dealAnswer
 each-answered deal = go (eqb (openingRefusal (lineOf (deal .opening))) 0) refl
   where
     go : (t : Bool) → eqb (openingRefusal (lineOf (deal .opening))) 0 ≡ t → Answered (dealAnswer deal)
-    go true e = subst Answered (sym (if-true _ _ _ e)) (items-answered (deal .number + 1) (openedBy (lineOf (deal .opening))) (deal .items) (opening-accepted (lineOf (deal .opening)) e))
+    go true e = subst Answered (sym (if-true _ _ _ e)) (lines-answered (deal .number + 1) (openedBy (lineOf (deal .opening))) (deal .further) (opening-accepted (lineOf (deal .opening)) e))
     go false e = byLine (openingRefusal (lineOf (deal .opening))) (deal .number) (if-false _ _ _ e) e (opening-not-40 (lineOf (deal .opening)))

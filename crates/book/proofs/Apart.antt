@@ -1,12 +1,11 @@
 -- A deal's answer depends on its own lines, its serial and its line number, and on nothing else in the book. Assumes nothing.
 use Prim.Native.Nat.{ℕ, suc, _+_, _*_}
-use mathlib.Core.Path.{_≡_, refl, sym, _∙_, ap}
-use mathlib.Core.Bool.{Bool, true, false}
+use mathlib.Core.Path.{_≡_, sym, _∙_, ap}
+use mathlib.Core.Bool.{true}
 use mathlib.Core.List.{List, [], _∷_, _++_, append-assoc, append-nil}
 use mathlib.Core.Logic.{_⊎_, inl, ⊎-elim}
 use native.Mathlib.Omega.{arith}
-use lib.Dec.{eqb}
-use lib.ListN.{length, take, drop, length-append}
+use lib.ListN.{length, take, drop}
 use lib.Seq.{take-at, drop-at}
 use Rattle.base.specs.All.{all}
 use Rattle.text.specs.Text.{linesOf, ended}
@@ -14,30 +13,11 @@ use Rattle.text.proofs.Lines.{lines-append, no-lines}
 use Rattle.deal.specs.declared.deal.Deal.{Deal}
 use Rattle.book.specs.Deals.{DealLines, opensDeal, dealsFrom}
 use Rattle.book.specs.Answers.{dealAnswer, answersFrom}
-use Rattle.book.specs.Working.{answerAfter}
-use Rattle.book.specs.Parts.{dealsIn, linesIn, StartsDeal, answersTo, Follows}
+use Rattle.book.specs.Parts.{dealsIn, linesIn, StartsDeal, answersTo, Parted}
 use Rattle.book.specs.Book.{header, bookRefusal, resultsAfter}
-use Rattle.book.specs.declared.progress.Progress.{Progress}
-use Rattle.book.proofs.Answering.{answer-opened, answer-followed, answer-refused, answer-accepted, refused-answer, no-more-items, no-answers, answers-more}
+use Rattle.book.proofs.Answering.{no-answers, answers-more, answers-long}
 use Rattle.book.proofs.Grouping.{deals-append, deals-counted}
 use Rattle.book.proofs.Refusing.{accepted-results}
-
--- a deal's answer is three numbers behind its serial
-after-three : (p : Progress) (number : ℕ) (lines : List (List ℕ)) → length (answerAfter p number lines) ≡ 3
-after-three p number [] = go (eqb (p .refusal) 0) refl
-  where
-    go : (t : Bool) → eqb (p .refusal) 0 ≡ t → length (answerAfter p number []) ≡ 3
-    go true e = ap length (answer-accepted p number [] e ∙ no-more-items number (p .deal))
-    go false e = ap length (answer-refused p number [] e ∙ refused-answer (p .refusal) (p .number))
-after-three p number (line ∷ lines) = ap length (answer-followed p number line lines) ∙ after-three _ (number + 1) lines
-
-answers-long : (serial : ℕ) (deals : List DealLines) → length (answersFrom serial deals) ≡ 4 * length deals
-answers-long serial [] = ap length (no-answers serial)
-answers-long serial (deal ∷ deals) =
-    let three = ap length (answer-opened deal) ∙ after-three _ (deal .number + 1) (deal .items) in
-    let more = length-append (dealAnswer deal) (answersFrom (serial + 1) deals) in
-    let rest = answers-long (serial + 1) deals in
-    ap length (answers-more serial deal deals) ∙ omega (arith, three, more, rest)
 
 answers-append : (serial : ℕ) (ds es : List DealLines) → answersFrom serial (ds ++ es) ≡ answersFrom serial ds ++ answersFrom (serial + length ds) es
 answers-append serial [] es =
@@ -50,20 +30,20 @@ answers-append serial (d ∷ ds) es =
     ∙ ap (λ xs. serial ∷ xs) (sym (append-assoc (dealAnswer d) (answersFrom (serial + 1) ds) (answersFrom (serial + suc (length ds)) es)))
     ∙ ap (λ xs. xs ++ answersFrom (serial + suc (length ds)) es) (sym (answers-more serial d ds))
 
-lines-follow : (first second : List ℕ) → Follows first second → linesOf (first ++ second) ≡ linesOf first ++ linesOf second
+lines-follow : (first second : List ℕ) → Parted first second → linesOf (first ++ second) ≡ linesOf first ++ linesOf second
 lines-follow first second f = ⊎-elim (lines-append first second) nothing f
   where
     nothing : second ≡ [] → linesOf (first ++ second) ≡ linesOf first ++ linesOf second
     nothing e = rw (e, no-lines, append-nil first, append-nil (linesOf first))
 
-starts-follow : (first second : List ℕ) → Follows first second → StartsDeal first → StartsDeal second → StartsDeal (first ++ second)
+starts-follow : (first second : List ℕ) → Parted first second → StartsDeal first → StartsDeal second → StartsDeal (first ++ second)
 starts-follow first second f s t = ap (λ ls. all (take 1 ls) opensDeal) (lines-follow first second f) ∙ go (linesOf first) s
   where
     go : (ls : List (List ℕ)) → all (take 1 ls) opensDeal ≡ true → all (take 1 (ls ++ linesOf second)) opensDeal ≡ true
     go [] h = t
     go (l ∷ ls) h = h
 
-answers-follow : (serial number : ℕ) (first second : List ℕ) → Follows first second → StartsDeal second
+answers-follow : (serial number : ℕ) (first second : List ℕ) → Parted first second → StartsDeal second
     → answersTo serial number (first ++ second) ≡ answersTo serial number first ++ answersTo (serial + dealsIn first) (number + linesIn first) second
 answers-follow serial number first second f s =
     ap (λ ls. answersFrom serial (dealsFrom number ls)) (lines-follow first second f)
@@ -81,7 +61,7 @@ part-behind n k first second rest e h =
     ∙ ap (take k) (drop-at first (second ++ rest) n e)
     ∙ take-at second rest k h
 
-module _ (before own after list : List ℕ) (b : ended before ≡ true) (f : Follows own after) (s : StartsDeal own) (t : StartsDeal after) where
+module _ (before own after list : List ℕ) (b : ended before ≡ true) (f : Parted own after) (s : StartsDeal own) (t : StartsDeal after) where
   abbrev book : List ℕ
   book = header ++ (before ++ (own ++ after))
 
@@ -111,7 +91,7 @@ module _ (before own after list : List ℕ) (b : ended before ≡ true) (f : Fol
 
 -- so the other lines may be replaced by any others with as many lines and deals before this part
 pub answers-unmoved : (before before′ own after after′ list list′ : List ℕ)
-    → ended before ≡ true → ended before′ ≡ true → Follows own after → Follows own after′ → StartsDeal own → StartsDeal after → StartsDeal after′
+    → ended before ≡ true → ended before′ ≡ true → Parted own after → Parted own after′ → StartsDeal own → StartsDeal after → StartsDeal after′
     → linesIn before ≡ linesIn before′ → dealsIn before ≡ dealsIn before′
     → bookRefusal (header ++ (before ++ (own ++ after))) (length list) ≡ 0
     → bookRefusal (header ++ (before′ ++ (own ++ after′))) (length list′) ≡ 0

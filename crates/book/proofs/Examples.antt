@@ -1,30 +1,32 @@
 -- Books answered by the definitions themselves: the example of 01, and small ones. Assumes nothing.
 use Prim.Native.Nat.{ℕ}
 use mathlib.Core.Path.{_≡_, refl}
+use mathlib.Core.Bool.{true}
 use mathlib.Core.List.{List, [], _∷_, _++_, map}
 use lib.ListN.{replicate}
 use Rattle.base.specs.Choice.{if_then_else_}
 use Rattle.base.specs.FirstMet.{firstOr}
 use Rattle.base.specs.Range.{within}
-use Rattle.text.specs.Bytes.{bytes}
+use Rattle.text.specs.Bytes.{byte, bytes}
 use Rattle.text.specs.Decimal.{decimalFrom}
-use Rattle.text.specs.Text.{startsWith, extendFirst, linesOf}
+use Rattle.text.specs.Text.{tab, startsWith, extendFirst, linesOf}
+use Rattle.text.proofs.Bytes.{only}
 use Rattle.deal.specs.Deals.{openedDeal, addCollateralTests, addCollateralRefusal, withCollateral, addGuaranteeTests, addGuaranteeRefusal, withGuarantee}
 use Rattle.relief.proofs.Computed.{computed}
 use Rattle.lines.specs.Numbers.{digitsOf, numberAllowed, numberRead, numberOf}
 use Rattle.lines.specs.Fields.{fieldOf, isEnd, andThen, withNumber, fieldsOf}
 use Rattle.lines.specs.Lines.{dealLine, collateralLine, guaranteeLine, ifRead, lineOf}
-use Rattle.book.specs.Deals.{ownLines, dealsFrom}
-use Rattle.book.specs.Answers.{openingRefusal, openedBy, itemRefusal, withItem, refusedAt, reported, itemsAnswer, dealAnswer, answersFrom}
+use Rattle.book.specs.Deals.{opensDeal, ownLines, dealsFrom}
+use Rattle.book.specs.Answers.{openingRefusal, openedBy, lineRefusal, withLine, refusedAt, reported, linesAnswer, dealAnswer, answersFrom}
 use Rattle.book.specs.Book.{bookTests, bookRefusal, answeredDeals, bookReply, resultsAfter}
 use Rattle.book.specs.declared.reply.Reply.{Reply}
 
 -- `unfolding worked` opens every definition that an answer comes from
-unfoldable worked : List ℕ → List ℕ → List ℕ
-unfolding computed openedDeal addCollateralTests addCollateralRefusal withCollateral addGuaranteeTests addGuaranteeRefusal withGuarantee firstOr within if_then_else_ startsWith extendFirst linesOf decimalFrom digitsOf numberAllowed numberRead numberOf fieldOf isEnd andThen withNumber fieldsOf dealLine collateralLine guaranteeLine ifRead lineOf ownLines dealsFrom openingRefusal openedBy itemRefusal withItem refusedAt reported itemsAnswer dealAnswer answersFrom bookTests bookRefusal answeredDeals bookReply resultsAfter
+unfoldable pub worked : List ℕ → List ℕ → List ℕ
+unfolding computed openedDeal addCollateralTests addCollateralRefusal withCollateral addGuaranteeTests addGuaranteeRefusal withGuarantee firstOr within if_then_else_ startsWith extendFirst linesOf decimalFrom digitsOf numberAllowed numberRead numberOf fieldOf isEnd andThen withNumber fieldsOf dealLine collateralLine guaranteeLine ifRead lineOf ownLines dealsFrom openingRefusal openedBy lineRefusal withLine refusedAt reported linesAnswer dealAnswer answersFrom bookTests bookRefusal answeredDeals bookReply resultsAfter
 worked book before = resultsAfter book before
 
-abbrev example : List ℕ
+abbrev pub example : List ℕ
 example =
     bytes "CRM\t1\nD\t1000000\t3\t0\t978\t3\t1\t1800\t1\t0\t0\n"
     ++ bytes "C\t400000\t2\t1\t720\t978\t1800\t1800\t1\t1\t1\t0\n"
@@ -69,7 +71,7 @@ unfolding worked
 list-untouched = refl
 
 -- one deal in each, answered by its first refused line: an amount over the limit, with a bad field too, behind the header; a line that
--- opens no deal, an item refused, both; a line of one more deal that cannot be read
+-- opens no deal, an item refused, both; no line feed; a line of a tab alone
 first-refused :
     map (λ book. resultsAfter book (replicate 4 7)) (
     bytes "CRM\t1\nD\t1000000000001\t1\t0\t1\t1\t1\t1\t1\t0\t0\nG\n"
@@ -78,6 +80,7 @@ first-refused :
     ∷ bytes "CRM\t1\nD\t0\t1\t0\t1\t1\t1\t1\t1\t0\t0\nC\t0\t1\t0\t0\t1\t2\t1\t1\t1\t1\t2\n\n"
     ∷ bytes "CRM\t1\nD\t0\t1\t0\t1\t1\t1\t1\t1\t0\t0\n\nC\t0\t1\t0\t0\t1\t2\t1\t1\t1\t1\t2\n"
     ∷ bytes "CRM\t1\nD\t0\t1\t0\t1\t1\t1\t1\t1\t0\t0"
+    ∷ bytes "CRM\t1\nD\t0\t1\t0\t1\t1\t1\t1\t1\t0\t0\n\t\n"
     ∷ []
     )
     ≡ (1 ∷ 1 ∷ 2 ∷ 0 ∷ [])
@@ -86,6 +89,12 @@ first-refused :
     ∷ (1 ∷ 7 ∷ 3 ∷ 0 ∷ [])
     ∷ (1 ∷ 11 ∷ 3 ∷ 0 ∷ [])
     ∷ (1 ∷ 11 ∷ 2 ∷ 0 ∷ [])
+    ∷ (1 ∷ 11 ∷ 3 ∷ 0 ∷ [])
     ∷ []
 unfolding worked
 first-refused = refl
+
+-- of all bytes behind a D the tab alone opens a deal, and of all bytes before a tab the D alone
+opens-only : (only tab (λ b. opensDeal (byte "D" ∷ b ∷ [])) ≡ true) × (only (byte "D") (λ b. opensDeal (b ∷ tab ∷ [])) ≡ true)
+unfolding worked
+opens-only = (refl, refl)

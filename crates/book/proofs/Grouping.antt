@@ -26,7 +26,7 @@ opens-some (b ∷ bs) h = omega arith
 
 module _ (number : ℕ) (line : List ℕ) (lines : List (List ℕ)) where
   pub deals-open : opensDeal line ≡ true
-      → dealsFrom number (line ∷ lines) ≡ record { number = number; opening = line; items = ownLines lines } ∷ dealsFrom (number + 1) lines
+      → dealsFrom number (line ∷ lines) ≡ record { number = number; opening = line; further = ownLines lines } ∷ dealsFrom (number + 1) lines
   unfolding dealsFrom
   deals-open h = if-true _ _ _ h
 

@@ -1,8 +1,10 @@
 -- Laws of a book's refusals. Assumes nothing.
-use Prim.Native.Nat.{ℕ}
+use Prim.Native.Nat.{ℕ, _*_, _≤_}
 use mathlib.Core.Path.{_≡_, refl, _∙_, ap}
 use mathlib.Core.Bool.{Bool, true, false, not, _&&_}
 use mathlib.Core.List.{List, [], _∷_}
+use native.Mathlib.Omega.{arith}
+use borrow.Author.Tests.{eqb-true, ltb-false}
 use lib.Dec.{eqb}
 use lib.ListN.{length, take}
 use Rattle.base.specs.All.{all}
@@ -55,6 +57,10 @@ module _ (book : List ℕ) (places : ℕ) where
   unfolding bookReply
   reply-refusal = refl
 
+  pub reply-deals : bookReply book places .deals ≡ length (answeredDeals book places)
+  unfolding bookReply
+  reply-deals = refl
+
   -- each refusal exactly where its own test is met and none before it
   pub book-exact : Exact (bookTests book places)
   unfolding bookTests
@@ -65,7 +71,16 @@ module _ (book : List ℕ) (places : ℕ) where
   unfolding bookRefusal bookTests
   accepted-tests e = none-exactly (bookTests book places) refl e
 
--- the list after a refusal, and after none
+-- so it has no more deals than the list has room for
+pub enough : (book : List ℕ) (places : ℕ) → bookRefusal book places ≡ 0 → 4 * length (dealsOf book) ≤ places
+unfolding bookTests
+enough book places e = ltb-false places (4 * length (dealsOf book)) (accepted-tests book places e .1 .1 .1 .0)
+
+-- the list afterwards; after a refusal, and after none
+pub results-made : (book before : List ℕ) → resultsAfter book before ≡ overwrite (answersFrom 1 (answeredDeals book (length before))) before
+unfolding resultsAfter
+results-made book before = refl
+
 pub refused-results : (book before : List ℕ) → eqb (bookRefusal book (length before)) 0 ≡ false → resultsAfter book before ≡ before
 unfolding resultsAfter
 refused-results book before e =
@@ -77,3 +92,11 @@ unfolding resultsAfter
 accepted-results book before e =
     let every = all-answered book (length before) (ap (λ n. eqb n 0) e) in
     rw every
+
+-- what is answered has room in the list
+pub answered-room : (book : List ℕ) (places : ℕ) → 4 * length (answeredDeals book places) ≤ places
+answered-room book places = go (eqb (bookRefusal book places) 0) refl
+  where
+    go : (t : Bool) → eqb (bookRefusal book places) 0 ≡ t → 4 * length (answeredDeals book places) ≤ places
+    go true e = rw (all-answered book places e) (enough book places (eqb-true (bookRefusal book places) 0 e))
+    go false e = rw (none-answered book places e) (omega arith)

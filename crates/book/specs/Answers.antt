@@ -1,4 +1,4 @@
--- The answer to a deal of a book: four numbers. 01: The book; Adding an item, "A refused line leaves the deal as it was before it"
+-- The answers to the deals of a book. 01: The book; Adding an item, "A refused line leaves the deal as it was before it"
 use Prim.Native.Nat.{ℕ, _+_}
 use mathlib.Core.List.{List, [], _∷_, _++_}
 use lib.Dec.{eqb}
@@ -16,56 +16,59 @@ use Rattle.book.specs.Deals.{DealLines}
 abbrev pub malformedLine : ℕ
 malformedLine = 11
 
--- how the line that opens a deal is refused, or 0. No line but one of the letter D can open a deal
+-- how the line that opens a deal is refused, or 0. It begins with D and a tab, so it never reads as a line C or G
 unfoldable pub openingRefusal : Line → ℕ
 openingRefusal (DealLine terms) = termsRefusal terms
 openingRefusal (CollateralLine c) = malformedLine
 openingRefusal (GuaranteeLine g) = malformedLine
 openingRefusal Malformed = malformedLine
 
--- the deal it opens: none beside a refusal, where a record of zeros stands
+-- a record of zeros, where a refusal gives no deal
 abbrev pub noDeal : Deal
 noDeal = openedDeal (termsOf 0 0 0 0 0 0 0 0 0 0)
 
+-- the deal it opens
 unfoldable pub openedBy : Line → Deal
 openedBy (DealLine terms) = openedDeal terms
 openedBy (CollateralLine c) = noDeal
 openedBy (GuaranteeLine g) = noDeal
 openedBy Malformed = noDeal
 
--- how a further line of the deal is refused, or 0
-unfoldable pub itemRefusal : Deal → Line → ℕ
-itemRefusal d (CollateralLine c) = addCollateralRefusal d c
-itemRefusal d (GuaranteeLine g) = addGuaranteeRefusal d g
-itemRefusal d (DealLine terms) = malformedLine
-itemRefusal d Malformed = malformedLine
+-- how a further line of the deal is refused, or 0. It never reads as a line D, which would open the next deal
+unfoldable pub lineRefusal : Deal → Line → ℕ
+lineRefusal d (CollateralLine c) = addCollateralRefusal d c
+lineRefusal d (GuaranteeLine g) = addGuaranteeRefusal d g
+lineRefusal d (DealLine terms) = malformedLine
+lineRefusal d Malformed = malformedLine
 
 -- the deal after that line
-unfoldable pub withItem : Deal → Line → Deal
-withItem d (CollateralLine c) = withCollateral d c
-withItem d (GuaranteeLine g) = withGuarantee d g
-withItem d (DealLine terms) = d
-withItem d Malformed = d
+unfoldable pub withLine : Deal → Line → Deal
+withLine d (CollateralLine c) = withCollateral d c
+withLine d (GuaranteeLine g) = withGuarantee d g
+withLine d (DealLine terms) = d
+withLine d Malformed = d
 
--- what becomes of a deal: "refusal or 0; E*, or the refused line's number ..; weighted amount, or 0"
+-- the three numbers behind a serial: "refusal or 0; E*, or the refused line's number ..; weighted amount, or 0"
 unfoldable pub refusedAt : ℕ → ℕ → List ℕ
 refusedAt refusal number = refusal ∷ number ∷ 0 ∷ []
 
+-- an accepted deal's (`each-answered`), so that nothing is reported as zeros for a refusal of its own
 unfoldable pub reported : Deal → List ℕ
 reported d = 0 ∷ reportOf d .exposure ∷ reportOf d .weighted ∷ []
 
 -- "A deal with a refused line is answered by the first one": a deal and the lines that follow, the first of which has this number
-unfoldable pub itemsAnswer : ℕ → Deal → List (List ℕ) → List ℕ
-itemsAnswer number d [] = reported d
-itemsAnswer number d (line ∷ lines) =
-    let refusal = itemRefusal d (lineOf line) in
-    if eqb refusal 0 then itemsAnswer (number + 1) (withItem d (lineOf line)) lines else refusedAt refusal number
+unfoldable pub linesAnswer : ℕ → Deal → List (List ℕ) → List ℕ
+linesAnswer number d [] = reported d
+linesAnswer number d (line ∷ lines) =
+    let refusal = lineRefusal d (lineOf line) in
+    if eqb refusal 0 then linesAnswer (number + 1) (withLine d (lineOf line)) lines else refusedAt refusal number
 
+-- the line that opens it, then its further lines
 unfoldable pub dealAnswer : DealLines → List ℕ
 dealAnswer deal =
     let line = lineOf (deal .opening) in
     if eqb (openingRefusal line) 0
-    then itemsAnswer (deal .number + 1) (openedBy line) (deal .items)
+    then linesAnswer (deal .number + 1) (openedBy line) (deal .further)
     else refusedAt (openingRefusal line) (deal .number)
 
 -- "The four numbers: serial from 1; .."

@@ -17,10 +17,11 @@ use Rattle.book.specs.declared.reply.Reply.{Reply}
 abbrev pub header : List ℕ
 header = bytes "CRM\t1\n"
 
+-- in bytes
 abbrev pub bookLimit : ℕ
 bookLimit = 65536
 
--- the lines behind the header
+-- the lines behind the header, where there is one
 abbrev pub linesBehind : List ℕ → List (List ℕ)
 linesBehind book = linesOf (drop (length header) book)
 
@@ -29,7 +30,7 @@ abbrev pub dealsOf : List ℕ → List DealLines
 dealsOf book = dealsFrom 2 (linesBehind book)
 
 -- "10 longer than 65,536 bytes; 9 first line wrong; 12 the second line exists and does not begin with D and a tab; 13 the lent results
--- list has fewer than four 64-bit numbers per deal"
+-- list has fewer than four 64-bit numbers per deal". Its places are the numbers that it holds
 unfoldable pub bookTests : List ℕ → ℕ → List (Test ℕ)
 bookTests book places =
     10 when ltb bookLimit (length book)

@@ -15,15 +15,16 @@ unfoldable pub ownLines : List (List ℕ) → List (List ℕ)
 ownLines [] = []
 ownLines (line ∷ lines) = if opensDeal line then [] else line ∷ ownLines lines
 
--- a deal in a book: the number of the line that opens it, that line, and its other lines
+-- a deal in a book: the number of the line that opens it, that line, and its further lines, whatever they say
 pub record DealLines : Type 0 where
   pub number : ℕ
   pub opening : List ℕ
-  pub items : List (List ℕ)
+  pub further : List (List ℕ)
 
--- the deals among lines, the first of which has this number
+-- the deals among lines, where the first line has this number. Lines before any that opens a deal are no deal's: refusal 12 shuts them
+-- out
 unfoldable pub dealsFrom : ℕ → List (List ℕ) → List DealLines
 dealsFrom number [] = []
 dealsFrom number (line ∷ lines) =
     let later = dealsFrom (number + 1) lines in
-    if opensDeal line then record { number = number; opening = line; items = ownLines lines } ∷ later else later
+    if opensDeal line then record { number = number; opening = line; further = ownLines lines } ∷ later else later

@@ -1,4 +1,5 @@
--- Parts of a book's text, for the claims about deals that stand together in one book. 01: The book
+-- Parts of a book's text, the header left out, for the claims about deals that stand together in one book. 01: The book, "In an accepted
+-- book no other line but the header affects its answer, save by being counted in serials and line numbers"
 use Prim.Native.Nat.{ℕ}
 use mathlib.Core.Bool.{true, false}
 use mathlib.Core.List.{List, []}
@@ -13,7 +14,7 @@ use Rattle.deal.specs.declared.deal.Deal.{Deal}
 use Rattle.book.specs.Deals.{opensDeal, dealsFrom}
 use Rattle.book.specs.Answers.{refusedAt, reported, answersFrom}
 
--- how many deals and lines a text has
+-- how many deals a text has, whatever its first line's number; and how many lines
 abbrev pub dealsIn : List ℕ → ℕ
 dealsIn text = length (dealsFrom 2 (linesOf text))
 
@@ -24,13 +25,13 @@ linesIn text = length (linesOf text)
 abbrev pub StartsDeal : List ℕ → Type 0
 StartsDeal text = all (take 1 (linesOf text)) opensDeal ≡ true
 
--- the answers to the deals of a text, where the first has this serial, and its first line this number
+-- the answers to the deals of a text, where the first deal has this serial, and the text's first line this number
 abbrev pub answersTo : ℕ → ℕ → List ℕ → List ℕ
 answersTo serial number text = answersFrom serial (dealsFrom number (linesOf text))
 
--- nothing follows, or what follows starts a new line
-abbrev pub Follows : List ℕ → List ℕ → Type 0
-Follows first second = (ended first ≡ true) ⊎ (second ≡ [])
+-- the second text starts a new line behind the first, or is empty
+abbrev pub Parted : List ℕ → List ℕ → Type 0
+Parted first second = (ended first ≡ true) ⊎ (second ≡ [])
 
 -- what a deal is answered by: a refused line, whose refusal is not 40, or the report of an accepted deal
 pub data Answered (answer : List ℕ) : Type 0 where

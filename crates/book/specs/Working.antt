@@ -10,7 +10,7 @@ use Rattle.text.specs.Text.{firstLine, linesOf}
 use Rattle.deal.specs.declared.deal.Deal.{Deal}
 use Rattle.lines.specs.declared.line.Line.{Line}
 use Rattle.book.specs.Deals.{DealLines, opensDeal, ownLines, dealsFrom}
-use Rattle.book.specs.Answers.{openingRefusal, openedBy, itemRefusal, withItem, refusedAt, itemsAnswer}
+use Rattle.book.specs.Answers.{openingRefusal, openedBy, lineRefusal, withLine, refusedAt, linesAnswer}
 use Rattle.book.specs.declared.progress.Progress.{Progress}
 
 abbrev pub progressOf : ℕ → ℕ → Deal → Progress
@@ -20,16 +20,16 @@ progressOf refusal number deal = record { refusal = refusal; number = number; de
 unfoldable pub afterOpening : ℕ → Line → Progress
 afterOpening number line = progressOf (openingRefusal line) number (openedBy line)
 
--- after one more line, which counts only where none is refused
-unfoldable pub afterItem : Progress → ℕ → Line → Progress
-afterItem p number line =
+-- after one more line, which is read only where none was refused
+unfoldable pub afterLine : Progress → ℕ → Line → Progress
+afterLine p number line =
     if eqb (p .refusal) 0
-    then progressOf (itemRefusal (p .deal) line) number (withItem (p .deal) line)
+    then progressOf (lineRefusal (p .deal) line) number (withLine (p .deal) line)
     else p
 
 -- the answer, where these lines follow
 unfoldable pub answerAfter : Progress → ℕ → List (List ℕ) → List ℕ
-answerAfter p next items = if eqb (p .refusal) 0 then itemsAnswer next (p .deal) items else refusedAt (p .refusal) (p .number)
+answerAfter p next further = if eqb (p .refusal) 0 then linesAnswer next (p .deal) further else refusedAt (p .refusal) (p .number)
 
 -- whether a text starts with a line that opens no deal
 unfoldable pub ownFirst : List ℕ → Bool
@@ -41,10 +41,10 @@ abbrev pub firstDeal : ℕ → List ℕ → DealLines
 firstDeal number text = record {
   number = number;
   opening = firstLine text;
-  items = ownLines (linesOf (drop (length (firstLine text)) text));
+  further = ownLines (linesOf (drop (length (firstLine text)) text));
 }
 
--- where its lines end, and the number of the line there: what follows is nothing or another deal, and the other deals are all there
+-- where its lines end, and the number of the line there, if there is one: what follows is nothing or another deal, and the other deals are all there
 pub record DealRead (number : ℕ) (text : List ℕ) (end next : ℕ) : Type 0 where
   pub inside : end ≤ length text
   pub some : 1 ≤ end

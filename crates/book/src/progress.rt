@@ -4,8 +4,8 @@ ghost use Rattle.deal.specs.Answers.{answerNumber};
 ghost use Rattle.deal.specs.Deals.{openedDeal};
 ghost use Rattle.deal.specs.Terms.{termsRefusal};
 ghost use Rattle.lines.specs.Lines.{lineOf};
-ghost use Rattle.book.specs.Answers.{itemRefusal, malformedLine, noDeal, withItem};
-ghost use Rattle.book.specs.Working.{afterItem, afterOpening, progressOf};
+ghost use Rattle.book.specs.Answers.{lineRefusal, malformedLine, noDeal, withLine};
+ghost use Rattle.book.specs.Working.{afterLine, afterOpening, progressOf};
 use deal::deal::Deal;
 use deal::deal::Reply;
 use deal::terms::Terms;
@@ -88,7 +88,7 @@ impl Progress {
 
     // After a further line, where none is refused.
     fn added(deal: Deal, line: Line, number: u64) -> Progress
-        ensures { λ r. ⌜ r ≡ progressOf (itemRefusal deal line) number (withItem deal line) ⌝ }
+        ensures { λ r. ⌜ r ≡ progressOf (lineRefusal deal line) number (withLine deal line) ⌝ }
     {
         match line {
             Line::CollateralLine(item) => Progress::of(deal.add_collateral(item), number),
@@ -100,7 +100,7 @@ impl Progress {
 
     // After a further line of the deal, which counts only as long as none is refused.
     pub fn followed(self, line: &[u8], number: u64) -> Progress
-        ensures { λ r. ⌜ r ≡ afterItem self number (lineOf (now (line .entry))) ⌝ }
+        ensures { λ r. ⌜ r ≡ afterLine self number (lineOf (now (line .entry))) ⌝ }
     {
         if self.refusal != 0 {
             return self;

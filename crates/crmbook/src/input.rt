@@ -1,5 +1,6 @@
 // What standard input holds.
 ghost use Prim.Native.Nat.{_≤_};
+ghost use mathlib.Core.Path.{_≡_};
 ghost use lib.ListN.{length};
 use libc::STDIN_FILENO;
 
@@ -9,8 +10,10 @@ pub struct Input {
     pub count: usize,
 }
 
-// Reads until the input ends, the buffer is full or a read fails; a read may bring any part.
+// Reads until the input ends, the buffer is full or a read fails; a read may bring any part. The buffer has one byte more than the
+// longest book, so that a longer one shows.
 pub fn read_input(buffer: &mut [u8]) -> Input
+    requires { ⌜ length (now buffer) ≡ 65537 ⌝ }
     ensures { λ r. ⌜ r .count ≤ length (now (buffer .exit)) ⌝ }
 {
     let mut count: usize = 0;

@@ -1,14 +1,12 @@
 // The program crmbook: reads a book on standard input and writes its result on standard output.
 mod input;
 
-use book::answer::answer_book;
 use input::read_input;
 use libc::STDERR_FILENO;
 use libc::STDOUT_FILENO;
-use result::write_result;
+use response::respond;
 
 fn main() {
-    // One byte more than the longest book, so that a longer one shows.
     let mut buffer = [0u8; 65537];
     let input = read_input(&mut buffer);
     if !input.complete {
@@ -16,12 +14,10 @@ fn main() {
         return;
     }
     let count = input.count;
-    // Four numbers for each of 2,048 deals.
+    // Four numbers for each of 2,048 deals, and room for their text, whatever the numbers.
     let mut results = [0u64; 8192];
-    let reply = answer_book(&buffer[..count], &mut results);
-    // Room for the text of 2,048 deals, whatever their numbers.
     let mut text = [0u8; 172061];
-    let length = write_result(reply.refusal, reply.deals, &results, &mut text);
+    let length = respond(&buffer[..count], &mut results, &mut text);
     if !io::write_all(STDOUT_FILENO, &text[..length]) {
         io::write_all(STDERR_FILENO, b"crmbook: the result cannot be written\n");
     }

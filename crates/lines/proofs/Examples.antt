@@ -1,12 +1,15 @@
 -- Numbers and lines of 01, The book, read by the definitions themselves. Assumes nothing.
 use Prim.Native.Nat.{ℕ}
 use mathlib.Core.Path.{_≡_, refl}
+use mathlib.Core.Bool.{Bool, true, false}
 use mathlib.Core.List.{List, [], _∷_, map}
 use lib.ListN.{replicate}
 use Rattle.base.specs.Choice.{if_then_else_}
 use Rattle.base.specs.Range.{within}
 use Rattle.deal.specs.Terms.{termsOf}
-use Rattle.text.specs.Bytes.{bytes}
+use Rattle.text.specs.Bytes.{byte, bytes}
+use Rattle.text.specs.Text.{tab, lineFeed}
+use Rattle.text.proofs.Bytes.{only}
 use Rattle.text.specs.Decimal.{decimalFrom}
 use Rattle.lines.specs.Numbers.{digitsOf, numberAllowed, numberRead, numberOf}
 use Rattle.lines.specs.Fields.{fieldOf, isEnd, andThen, withNumber, fieldsOf}
@@ -105,3 +108,60 @@ ill =
 all-malformed : map lineOf ill ≡ replicate 16 Malformed
 unfolding lineOf dealLine collateralLine guaranteeLine ifRead fieldsOf withNumber andThen isEnd fieldOf numberOf numberRead numberAllowed digitsOf decimalFrom within if_then_else_
 all-malformed = refl
+
+-- each field in its place, and none cut to a narrower width
+fields-in-place :
+    map lineOf (
+    bytes "D\t9123456789000\t9123456789001\t9123456789002\t9123456789003\t9123456789004\t9123456789005\t9123456789006\t9123456789007\t9123456789008\t9123456789009\n"
+    ∷ bytes "C\t9123456789000\t9123456789001\t9123456789002\t9123456789003\t9123456789004\t9123456789005\t9123456789006\t9123456789007\t9123456789008\t9123456789009\t9123456789010\n"
+    ∷ bytes "G\t9123456789000\t9123456789001\t9123456789002\t9123456789003\t9123456789004\t9123456789005\t9123456789006\t9123456789007\t9123456789008\n"
+    ∷ []
+    )
+    ≡ DealLine (termsOf 9123456789000 9123456789001 9123456789002 9123456789003 9123456789004 9123456789005 9123456789006 9123456789007 9123456789008 9123456789009)
+    ∷ CollateralLine (record {
+      amount = 9123456789000;
+      asset = record { goods = 9123456789001; step = 9123456789002; life = 9123456789003 };
+      currency = 9123456789004;
+      residual = 9123456789005;
+      original = 9123456789006;
+      lawful = 9123456789007;
+      unrelated = 9123456789008;
+      unreflected = 9123456789009;
+      listed = 9123456789010;
+    })
+    ∷ GuaranteeLine (record {
+      amount = 9123456789000;
+      provider = record { class = 9123456789001; step = 9123456789002 };
+      currency = 9123456789003;
+      residual = 9123456789004;
+      original = 9123456789005;
+      lawful = 9123456789006;
+      direct = 9123456789007;
+      unreflected = 9123456789008;
+    })
+    ∷ []
+unfolding lineOf dealLine collateralLine guaranteeLine ifRead fieldsOf withNumber andThen isEnd fieldOf numberOf numberRead numberAllowed digitsOf decimalFrom within if_then_else_
+fields-in-place = refl
+
+-- of all bytes the tab alone parts fields, and the line feed alone ends them
+unfoldable isNumber : Number → Bool
+isNumber NoNumber = false
+isNumber (Value value count) = true
+
+parts-only : (only tab (λ b. isNumber (fieldOf (b ∷ bytes "1"))) ≡ true) × (only lineFeed (λ b. isEnd (b ∷ [])) ≡ true)
+unfolding isNumber isEnd fieldOf numberOf numberRead numberAllowed digitsOf decimalFrom within if_then_else_
+parts-only = (refl, refl)
+
+-- and a line of ten numbers is read behind the letter D alone, one of eleven behind C, one of nine behind G
+unfoldable isRead : Line → Bool
+isRead Malformed = false
+isRead (DealLine terms) = true
+isRead (CollateralLine c) = true
+isRead (GuaranteeLine g) = true
+
+letters-only :
+    (only (byte "D") (λ b. isRead (lineOf (b ∷ bytes "\t1\t1\t1\t1\t1\t1\t1\t1\t1\t1\n"))) ≡ true)
+    × (only (byte "C") (λ b. isRead (lineOf (b ∷ bytes "\t1\t1\t1\t1\t1\t1\t1\t1\t1\t1\t1\n"))) ≡ true)
+    × (only (byte "G") (λ b. isRead (lineOf (b ∷ bytes "\t1\t1\t1\t1\t1\t1\t1\t1\t1\n"))) ≡ true)
+unfolding isRead lineOf dealLine collateralLine guaranteeLine ifRead fieldsOf withNumber andThen isEnd fieldOf numberOf numberRead numberAllowed digitsOf decimalFrom within if_then_else_
+letters-only = (refl, refl, refl)

@@ -29,17 +29,18 @@ unfoldable pub andThen : ℕ → Option (List ℕ) → Option (List ℕ)
 andThen value none = none
 andThen value (some values) = some (value ∷ values)
 
--- by cases: where there is no number, and what its value and digits give
+-- by cases: no number, or one with its value and how many digits it has
 unfoldable pub withNumber : {A : Type 0} → Number → A → (ℕ → ℕ → A) → A
 withNumber NoNumber other given = other
-withNumber (Value value digits) other given = given value digits
+withNumber (Value value count) other given = given value count
 
--- so many fields and the line feed: "Each field is read from where the one before it stopped", one tab and its digits further on
+-- so many fields and the line feed: "Each field is read from where the one before it stopped", which is
+-- behind its tab and its digits
 unfoldable pub fieldsOf : ℕ → List ℕ → Option (List ℕ)
 fieldsOf zero rest = if isEnd rest then some [] else none
-fieldsOf (suc n) rest = withNumber (fieldOf rest) none (λ value digits. andThen value (fieldsOf n (drop (1 + digits) rest)))
+fieldsOf (suc n) rest = withNumber (fieldOf rest) none (λ value count. andThen value (fieldsOf n (drop (1 + count) rest)))
 
--- in the eleven places that hold the fields of any line; zeros where they could not be read
+-- held in as many places as the longest line, C, has numbers; all zeros where they could not be read
 unfoldable pub fieldsHeld : Option (List ℕ) → Fields
 fieldsHeld none = record { read = false; values = replicate 11 0 }
 fieldsHeld (some values) = record { read = true; values = inPlaces 11 0 values }

@@ -54,6 +54,7 @@ guaranteeLine fields =
       unreflected = field 8;
     })
 
+-- what a line says, if its fields could be read
 unfoldable pub ifRead : (List ℕ → Line) → Option (List ℕ) → Line
 ifRead said none = Malformed
 ifRead said (some fields) = said fields
@@ -62,7 +63,8 @@ ifRead said (some fields) = said fields
 unfoldable pub ifHeld : (List ℕ → Line) → Fields → Line
 ifHeld said fields = if fields .read then said (fields .values) else Malformed
 
--- "lines D, C, G, each its letter and the fields in the order above (11, 12 and 10 fields with the letter)". Malformed: "unknown
+-- "lines D, C, G, each its letter and the fields in the order above (11, 12 and 10 fields with the letter)", which is not
+-- counted here. Malformed: "unknown
 -- letter, wrong number of fields, bad number, or no line feed"
 unfoldable pub lineOf : List ℕ → Line
 lineOf [] = Malformed

@@ -10,7 +10,7 @@ use Rattle.text.specs.Decimal.{decimal}
 use Rattle.lines.specs.declared.number.Number.{Number}
 use Rattle.lines.specs.declared.number.Number.the-variants.{Value, NoNumber}
 
--- the bytes 0 to 9
+-- the bytes of the digits 0 to 9
 abbrev pub isDigit : ℕ → Bool
 isDigit b = within 48 57 b
 

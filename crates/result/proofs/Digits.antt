@@ -8,7 +8,7 @@ use native.Mathlib.Numerals.{add-one}
 use lib.Dec.{ltb}
 use lib.ListN.{length, length-append}
 use Rattle.base.proofs.Choice.{if-true, if-false, either}
-use Rattle.result.specs.Decimal.{digitText, numberText}
+use Rattle.result.specs.Numbers.{digitText, numberText}
 
 -- the two cases of the definition
 pub digits-one : (k n : ℕ) → n < 10 → digitText (suc k) n ≡ (48 + n) ∷ []

@@ -3,7 +3,7 @@ use mathlib.Core.Path.{_≡_, refl}
 use mathlib.Core.List.{[], _∷_}
 use Rattle.base.specs.Choice.{if_then_else_}
 use Rattle.text.specs.Bytes.{bytes}
-use Rattle.result.specs.Decimal.{digitText, numberText}
+use Rattle.result.specs.Numbers.{digitText, numberText}
 use Rattle.result.specs.Result.{row, rows, resultText, fits, written}
 
 -- the example of 01
@@ -13,9 +13,17 @@ pub three-deals :
 unfolding resultText rows row numberText digitText if_then_else_
 three-deals = refl
 
-pub refused-nine : resultText 9 0 [] ≡ bytes "REFUSED\t9\n"
+-- every refusal of a book; nothing of a list is printed beside one
+pub refusals :
+    resultText 9 0 [] ∷ resultText 10 0 [] ∷ resultText 12 0 [] ∷ resultText 13 1 (1 ∷ 0 ∷ 5 ∷ 5 ∷ []) ∷ []
+    ≡ bytes "REFUSED\t9\n" ∷ bytes "REFUSED\t10\n" ∷ bytes "REFUSED\t12\n" ∷ bytes "REFUSED\t13\n" ∷ []
 unfolding resultText numberText digitText if_then_else_
-refused-nine = refl
+refusals = refl
+
+-- large numbers in each place of a line
+pub large : resultText 0 1 (2048 ∷ 11 ∷ 1000000000000 ∷ 1500000000000 ∷ []) ≡ bytes "RESULT\t1\n2048\t11\t1000000000000\t1500000000000\n"
+unfolding resultText rows row numberText digitText if_then_else_
+large = refl
 
 -- no deal: the heading alone
 pub no-deals : resultText 0 0 [] ≡ bytes "RESULT\t1\n"

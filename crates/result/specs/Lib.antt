@@ -1,3 +1,3 @@
-pub mod Decimal
+pub mod Numbers
 pub mod Placed
 pub mod Result

@@ -4,7 +4,7 @@ use mathlib.Core.Path.{_≡_}
 use mathlib.Core.List.{List, _++_}
 use lib.ListN.{length, take, drop}
 
--- the buffer with a text from this place on: every byte before the text and behind it as it was
+-- a buffer that has room, with a text from this place on: every byte before the text and behind it as it was
 unfoldable pub placedAt : ℕ → List ℕ → List ℕ → List ℕ
 placedAt at text before = take at before ++ text ++ drop (at + length text) before
 

@@ -2,7 +2,7 @@
 ghost use mathlib.Core.Path.{_≡_};
 ghost use Prim.Native.Nat.{_+_, _≤_};
 ghost use lib.ListN.{length};
-ghost use Rattle.result.specs.Decimal.{numberText};
+ghost use Rattle.result.specs.Numbers.{numberText};
 ghost use Rattle.result.specs.Placed.{Placed};
 
 // How many digits a number has.

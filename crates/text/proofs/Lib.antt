@@ -1,2 +1,4 @@
+pub mod Bytes
 pub mod Decimal
+pub mod Examples
 pub mod Lines

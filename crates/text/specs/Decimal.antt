@@ -2,7 +2,7 @@
 use Prim.Native.Nat.{ℕ, _+_, _*_, _-_}
 use mathlib.Core.List.{List, [], _∷_}
 
--- the number that digits write behind those that make a number already
+-- the number that digits write, where the digits before them made this one
 unfoldable pub decimalFrom : ℕ → List ℕ → ℕ
 decimalFrom made [] = made
 decimalFrom made (d ∷ ds) = decimalFrom (made * 10 + (d - 48)) ds

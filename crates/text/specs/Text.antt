@@ -19,7 +19,7 @@ startsWith [] text = true
 startsWith (p ∷ ps) [] = false
 startsWith (p ∷ ps) (b ∷ bs) = eqb b p && startsWith ps bs
 
--- the first line with one byte more in front of it
+-- lines, with one byte more in front of the first; a line of its own where there is none
 unfoldable pub extendFirst : ℕ → List (List ℕ) → List (List ℕ)
 extendFirst b [] = (b ∷ []) ∷ []
 extendFirst b (line ∷ lines) = (b ∷ line) ∷ lines
@@ -35,7 +35,7 @@ unfoldable pub firstLine : List ℕ → List ℕ
 firstLine [] = []
 firstLine (b ∷ bs) = if eqb b lineFeed then b ∷ [] else b ∷ firstLine bs
 
--- a text that ends in a line feed, or is empty, so that what follows it starts a line
+-- whether a text ends in a line feed or is empty, so that what follows it starts a line
 unfoldable pub ended : List ℕ → Bool
 ended [] = true
 ended (b ∷ []) = eqb b lineFeed

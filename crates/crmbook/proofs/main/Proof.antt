@@ -6,7 +6,7 @@ use native.Mathlib.Omega.{arith}
 use lib.ListN.{length, length-append}
 use lib.Seq.{length-take-le}
 use Rattle.base.proofs.Tests.{tests}
-use Rattle.result.specs.Result.{written}
+use Rattle.response.specs.Response.{printed}
 use Rattle.crmbook.proofs.main.Statement.{statement}
 use Rattle.crmbook.proofs.main.Tie as tie
 
@@ -28,40 +28,32 @@ returns c = search tests
 array-share-prefix-buffer : tie.Need-array-share-prefix-buffer
 array-share-prefix-buffer c = search tests
 
-slice-aggregate-answer-book : tie.Need-slice-aggregate-answer-book
-slice-aggregate-answer-book c = sym (length-take-le _ _ (c .before .before .before .before .read-input .ensures))
+slice-aggregate-respond : tie.Need-slice-aggregate-respond
+slice-aggregate-respond c = sym (length-take-le _ _ (c .before .before .before .before .read-input .ensures))
 
-slice-aggregate-answer-book-2 : tie.Need-slice-aggregate-answer-book-2
-slice-aggregate-answer-book-2 c = search tests
+slice-aggregate-respond-2 : tie.Need-slice-aggregate-respond-2
+slice-aggregate-respond-2 c = search tests
 
-answer-book-requires : tie.Need-answer-book-requires
-answer-book-requires c κs = search tests
+slice-aggregate-respond-3 : tie.Need-slice-aggregate-respond-3
+slice-aggregate-respond-3 c = search tests
 
-slice-aggregate-write-result : tie.Need-slice-aggregate-write-result
-slice-aggregate-write-result c = search tests
+respond-requires : tie.Need-respond-requires
+respond-requires c κs = search tests
 
-slice-aggregate-write-result-2 : tie.Need-slice-aggregate-write-result-2
-slice-aggregate-write-result-2 c = search tests
-
-write-result-requires : tie.Need-write-result-requires
-write-result-requires c κs = search tests
-
-part-inside : (n refusal deals space : ℕ) (results rest after : List ℕ)
-    → let text = written refusal deals results space in (n ≡ length text) × (after ≡ text ++ rest) → n ≤ length after
-part-inside n refusal deals space results rest after h =
-    let text = written refusal deals results space in
-    let k : length after ≡ length text + length rest = ap length (h .1) ∙ length-append text rest in
+part-inside : (n : ℕ) (book rest after : List ℕ) → (n ≡ length (printed book)) × (after ≡ printed book ++ rest) → n ≤ length after
+part-inside n book rest after h =
+    let k : length after ≡ length (printed book) + length rest = ap length (h .1) ∙ length-append (printed book) rest in
     omega (arith, h .0, k)
 
--- the text written is a part of the buffer
-inside : (c : tie.After-write-result) → c .write-result .result ≤ length (c .write-result .last .1 .1 .1 .0)
-inside c = part-inside _ _ _ _ _ _ _ (c .write-result .ensures)
+-- the text is a part of the buffer
+inside : (c : tie.After-respond) → c .respond .result ≤ length (c .respond .last .1 .1 .0)
+inside c = part-inside _ _ _ _ (c .respond .ensures)
 
 array-share-prefix-text : tie.Need-array-share-prefix-text
-array-share-prefix-text c = inside (c .before)
+array-share-prefix-text c = inside (c .before .before)
 
 slice-aggregate-write-all-2 : tie.Need-slice-aggregate-write-all-2
-slice-aggregate-write-all-2 c = sym (length-take-le _ _ (inside (c .before .before)))
+slice-aggregate-write-all-2 c = sym (length-take-le _ _ (inside (c .before .before .before)))
 
 write-all-requires-2 : tie.Need-write-all-requires-2
 write-all-requires-2 c κs = search tests
@@ -88,12 +80,10 @@ main-spec =
     write-all-requires
     returns
     array-share-prefix-buffer
-    slice-aggregate-answer-book
-    slice-aggregate-answer-book-2
-    answer-book-requires
-    slice-aggregate-write-result
-    slice-aggregate-write-result-2
-    write-result-requires
+    slice-aggregate-respond
+    slice-aggregate-respond-2
+    slice-aggregate-respond-3
+    respond-requires
     array-share-prefix-text
     slice-aggregate-write-all-2
     write-all-requires-2

@@ -1,5 +1,5 @@
 -- `book::answer::answer_book` meets its contract: a book that meets no test has its deals answered. Assumes nothing.
-use Prim.Native.Nat.{ℕ, _*_, _≤_}
+use Prim.Native.Nat.{ℕ, _≤_}
 use mathlib.Core.Path.{_≡_, refl, sym, _∙_, ap}
 use mathlib.Core.Bool.{true, false}
 use mathlib.Core.List.{List}
@@ -13,8 +13,8 @@ use Rattle.text.proofs.Lines.{starts-long, rest-part}
 use Rattle.book.specs.Deals.{dealsFrom}
 use Rattle.book.specs.Answers.{answersFrom}
 use Rattle.book.specs.Working.{ownFirst}
-use Rattle.book.specs.Book.{bookLimit, header, dealsOf, bookTests, bookRefusal, overwrite}
-use Rattle.book.proofs.Refusing.{second-wrong, reply-refusal, accepted-tests, refused-results, accepted-results}
+use Rattle.book.specs.Book.{bookLimit, header, bookTests, bookRefusal, overwrite}
+use Rattle.book.proofs.Refusing.{second-wrong, reply-refusal, accepted-tests, enough, refused-results, accepted-results}
 use Rattle.book.proofs.answer.answer_book.Statement.{statement}
 use Rattle.book.proofs.answer.answer_book.Tie as tie
 
@@ -59,10 +59,6 @@ module _ (c : tie.Else1) where
   unfolding bookTests
   begins = sym (second-wrong (drop 6 book₂)) ∙ accepted-tests book₂ places₂ accepted .1 .1 .0
 
-  enough : 4 * length (dealsOf book₂) ≤ places₂
-  unfolding bookTests
-  enough = ltb-false places₂ (4 * length (dealsOf book₂)) (accepted-tests book₂ places₂ accepted .1 .1 .1 .0)
-
 sub-answer-deals : tie.Need-sub-answer-deals
 sub-answer-deals c = long c
 
@@ -76,7 +72,7 @@ answer-deals-requires : tie.Need-answer-deals-requires
 answer-deals-requires c κs =
     let e = c .before .before in
     let l = length-drop 6 (book₂ e) in
-    rw (rest-part (book₂ e) 6) (begins e, (omega (arith, l, short e, long e), enough e))
+    rw (rest-part (book₂ e) 6) (begins e, (omega (arith, l, short e, long e), enough (book₂ e) (places₂ e) (accepted e)))
 
 same-length : tie.Need-same-length
 same-length c = search tests

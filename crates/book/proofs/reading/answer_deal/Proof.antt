@@ -5,7 +5,7 @@ use mathlib.Core.List.{List, [], _∷_}
 use borrow.Author.Tests.{eq-eqb, ne-eqb}
 use Rattle.base.proofs.Tests.{tests}
 use Rattle.relief.specs.declared.report.Report.{Report}
-use Rattle.book.proofs.Answering.{answer-refused, answer-accepted, refused-answer, no-more-items}
+use Rattle.book.proofs.Answering.{answer-refused, answer-accepted, refused-answer, no-more-lines}
 use Rattle.book.proofs.reading.answer_deal.Statement.{statement}
 use Rattle.book.proofs.reading.answer_deal.Tie as tie
 
@@ -35,7 +35,7 @@ returns-2 c =
       r .read-deal .ensures .0,
       r .read-deal .ensures .1
           ∙ answer-accepted p (r .read-deal .result .next) [] (eq-eqb _ _ (c .before .before .if1 .left))
-          ∙ no-more-items (r .read-deal .result .next) (p .deal)
+          ∙ no-more-lines (r .read-deal .result .next) (p .deal)
           ∙ ap figures (sym (c .of .ensures .1)),
     )
 

@@ -12,7 +12,7 @@ use Rattle.text.proofs.Lines.{lines-at, first-at-some, first-at-inside, first-i
 use Rattle.lines.specs.Lines.{lineOf}
 use Rattle.book.specs.Deals.{opensDeal, ownLines, dealsFrom}
 use Rattle.book.specs.Answers.{dealAnswer}
-use Rattle.book.specs.Working.{afterOpening, afterItem, answerAfter, firstDeal, ownFirst}
+use Rattle.book.specs.Working.{afterOpening, afterLine, answerAfter, firstDeal, ownFirst}
 use Rattle.book.specs.declared.progress.Progress.{Progress}
 use Rattle.book.proofs.Grouping.{deals-pass, own-more, own-over, own-opens-not, own-some, opens-first, opens-some}
 use Rattle.book.proofs.Answering.{answer-opened, answer-followed}
@@ -142,7 +142,7 @@ loop-again c =
     let text = text₂ e in
     let opens = own-opens-not (drop (l .at) text) (own e) in
     let read = ap lineOf (ap (λ n. take (n - l .at) (drop (l .at) text)) (e .line-end2 .ensures) ∙ line-part text (l .at)) in
-    let followed = c .followed .ensures ∙ ap (afterItem (l .progress) (l .next)) read in
+    let followed = c .followed .ensures ∙ ap (afterLine (l .progress) (l .next)) read in
     record {
       inside = on e .1 .1;
       some = omega (arith, on e);

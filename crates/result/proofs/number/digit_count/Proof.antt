@@ -5,7 +5,7 @@ use native.Mathlib.Nat.{pow-suc}
 use native.Mathlib.Omega.{arith}
 use lib.ListN.{length}
 use Rattle.base.proofs.Tests.{tests}
-use Rattle.result.specs.Decimal.{digitText, numberText}
+use Rattle.result.specs.Numbers.{digitText, numberText}
 use Rattle.result.proofs.Digits.{digits-one, length-more}
 use Rattle.result.proofs.number.digit_count.Statement.{statement}
 use Rattle.result.proofs.number.digit_count.Tie as tie

@@ -5,7 +5,7 @@ use mathlib.Core.List.{List, [], _∷_, _++_, append-assoc, append-nil}
 use native.Mathlib.Omega.{arith}
 use lib.ListN.{length, set, length-set}
 use Rattle.base.proofs.Tests.{tests}
-use Rattle.result.specs.Decimal.{numberText}
+use Rattle.result.specs.Numbers.{numberText}
 use Rattle.result.specs.Placed.{placedAt, Placed}
 use Rattle.result.proofs.Digits.{number-short, number-last, lastDigits, last-none, last-more}
 use Rattle.result.proofs.Placed.{placed-none, placed-front}

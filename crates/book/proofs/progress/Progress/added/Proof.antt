@@ -1,6 +1,6 @@
 -- `book::progress::Progress::added` meets its contract. Assumes nothing.
 use Rattle.base.proofs.Tests.{tests}
-use Rattle.book.specs.Answers.{itemRefusal, withItem}
+use Rattle.book.specs.Answers.{lineRefusal, withLine}
 use Rattle.book.proofs.progress.Progress.added.Statement.{statement}
 use Rattle.book.proofs.progress.Progress.added.Tie as tie
 
@@ -35,19 +35,19 @@ malformed-requires-2 : tie.Need-malformed-requires-2
 malformed-requires-2 c κs = search tests
 
 returns : tie.Need-returns
-unfolding itemRefusal withItem
+unfolding lineRefusal withLine
 returns c = rw (c .before .before .before .line .given .1, c .of .ensures, c .before .add-collateral .ensures .0, c .before .add-collateral .ensures .1)
 
 returns-2 : tie.Need-returns-2
-unfolding itemRefusal withItem
+unfolding lineRefusal withLine
 returns-2 c = rw (c .before .before .before .line2 .given .1, c .of2 .ensures, c .before .add-guarantee .ensures .0, c .before .add-guarantee .ensures .1)
 
 returns-3 : tie.Need-returns-3
-unfolding itemRefusal withItem
+unfolding lineRefusal withLine
 returns-3 c = rw (c .before .enum-told .given .1, c .malformed .ensures)
 
 returns-4 : tie.Need-returns-4
-unfolding itemRefusal withItem
+unfolding lineRefusal withLine
 returns-4 c = rw (c .before .enum-told2 .given .1, c .malformed2 .ensures)
 
 pub added-spec : {M : Type 1} → statement M
