@@ -1,7 +1,7 @@
 -- What is written for a book's reply and list is what the program prints. Assumes nothing.
 use Prim.Native.Nat.{ℕ, _+_, _*_, _≤_}
 use mathlib.Core.Path.{_≡_, _∙_, ap}
-use mathlib.Core.List.{List}
+use mathlib.Core.List.{List, _++_}
 use native.Mathlib.Omega.{arith}
 use lib.ListN.{length, drop, length-append}
 use Rattle.result.specs.Result.{room, resultText, written}
@@ -38,3 +38,9 @@ module _ (book before : List ℕ) (long : length before ≡ places) where
       ∙ written-whole (bookRefusal book places) deals 172061 (resultsAfter book before) room-for-all answers-inside
       ∙ ap (resultText (bookRefusal book places) deals) made
       ∙ text-front (bookRefusal book places) deals answers (drop (length answers) before) (omega (arith, answers-long 1 (answeredDeals book places)))
+
+-- a buffer that starts with the text has at least its length
+pub printed-inside : (n : ℕ) (book rest after : List ℕ) → (n ≡ length (printed book)) × (after ≡ printed book ++ rest) → n ≤ length after
+printed-inside n book rest after h =
+    let k : length after ≡ length (printed book) + length rest = ap length (h .1) ∙ length-append (printed book) rest in
+    omega (arith, h .0, k)

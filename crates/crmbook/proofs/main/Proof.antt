@@ -1,12 +1,10 @@
 -- `crmbook::main` is safe and ends. Assumes the contracts of reading and writing.
-use Prim.Native.Nat.{ℕ, _+_, _≤_}
-use mathlib.Core.Path.{_≡_, sym, _∙_, ap}
-use mathlib.Core.List.{List, _++_}
-use native.Mathlib.Omega.{arith}
-use lib.ListN.{length, length-append}
+use Prim.Native.Nat.{ℕ, _≤_}
+use mathlib.Core.Path.{sym}
+use lib.ListN.{length, length-replicate}
 use lib.Seq.{length-take-le}
 use Rattle.base.proofs.Tests.{tests}
-use Rattle.response.specs.Response.{printed}
+use Rattle.response.proofs.Printed.{printed-inside}
 use Rattle.crmbook.proofs.main.Statement.{statement}
 use Rattle.crmbook.proofs.main.Tie as tie
 
@@ -14,7 +12,7 @@ slice-aggregate-read-input : tie.Need-slice-aggregate-read-input
 slice-aggregate-read-input c = search tests
 
 read-input-requires : tie.Need-read-input-requires
-read-input-requires c κs = search tests
+read-input-requires c κs = length-replicate {A = ℕ} 65537 0
 
 slice-aggregate-write-all : tie.Need-slice-aggregate-write-all
 slice-aggregate-write-all c = search tests
@@ -38,16 +36,11 @@ slice-aggregate-respond-3 : tie.Need-slice-aggregate-respond-3
 slice-aggregate-respond-3 c = search tests
 
 respond-requires : tie.Need-respond-requires
-respond-requires c κs = search tests
-
-part-inside : (n : ℕ) (book rest after : List ℕ) → (n ≡ length (printed book)) × (after ≡ printed book ++ rest) → n ≤ length after
-part-inside n book rest after h =
-    let k : length after ≡ length (printed book) + length rest = ap length (h .1) ∙ length-append (printed book) rest in
-    omega (arith, h .0, k)
+respond-requires c κs = (length-replicate {A = ℕ} 8192 0, length-replicate {A = ℕ} 172061 0)
 
 -- the text is a part of the buffer
 inside : (c : tie.After-respond) → c .respond .result ≤ length (c .respond .last .1 .1 .0)
-inside c = part-inside _ _ _ _ (c .respond .ensures)
+inside c = printed-inside _ _ _ _ (c .respond .ensures)
 
 array-share-prefix-text : tie.Need-array-share-prefix-text
 array-share-prefix-text c = inside (c .before .before)
