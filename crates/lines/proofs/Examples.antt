@@ -1,12 +1,13 @@
 -- Numbers and lines of 01, The book, read by the definitions themselves. Assumes nothing.
 use Prim.Native.Nat.{ℕ}
 use mathlib.Core.Path.{_≡_, refl}
-use mathlib.Core.Bool.{Bool, true, false}
+use mathlib.Core.Bool.{Bool, true, false, not}
 use mathlib.Core.List.{List, [], _∷_, map}
 use lib.ListN.{replicate}
 use Rattle.base.specs.Choice.{if_then_else_}
 use Rattle.base.specs.Range.{within}
 use Rattle.deal.specs.Terms.{termsOf}
+use Rattle.base.proofs.Every.{every}
 use Rattle.text.specs.Bytes.{byte, bytes}
 use Rattle.text.specs.Text.{tab, lineFeed}
 use Rattle.text.proofs.Bytes.{only}
@@ -143,14 +144,17 @@ fields-in-place :
 unfolding lineOf dealLine collateralLine guaranteeLine ifRead fieldsOf withNumber andThen isEnd fieldOf numberOf numberRead numberAllowed digitsOf decimalFrom within if_then_else_
 fields-in-place = refl
 
--- of all bytes the tab alone parts fields, and the line feed alone ends them
+-- of all bytes the tab alone parts fields, and the line feed alone ends them, with nothing before it
 unfoldable isNumber : Number → Bool
 isNumber NoNumber = false
 isNumber (Value value count) = true
 
-parts-only : (only tab (λ b. isNumber (fieldOf (b ∷ bytes "1"))) ≡ true) × (only lineFeed (λ b. isEnd (b ∷ [])) ≡ true)
+parts-only :
+    (only tab (λ b. isNumber (fieldOf (b ∷ bytes "1"))) ≡ true)
+    × (only lineFeed (λ b. isEnd (b ∷ [])) ≡ true)
+    × (every 256 (λ b. not (isEnd (b ∷ lineFeed ∷ []))) ≡ true)
 unfolding isNumber isEnd fieldOf numberOf numberRead numberAllowed digitsOf decimalFrom within if_then_else_
-parts-only = (refl, refl)
+parts-only = (refl, refl, refl)
 
 -- and a line of ten numbers is read behind the letter D alone, one of eleven behind C, one of nine behind G
 unfoldable isRead : Line → Bool
