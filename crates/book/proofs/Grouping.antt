@@ -11,7 +11,7 @@ use Rattle.base.proofs.Every.{both}
 use Rattle.base.proofs.Choice.{if-true, if-false, never}
 use Rattle.base.proofs.Tests.{told-not-true, told-not-false}
 use Rattle.text.specs.Text.{startsWith, firstLine, linesOf}
-use Rattle.text.proofs.Lines.{starts-first, lines-first, no-lines}
+use Rattle.text.proofs.Lines.{starts-first, lines-first, lines-at, no-lines}
 use Rattle.book.specs.Deals.{opensDeal, ownLines, dealsFrom}
 use Rattle.book.specs.Working.{ownFirst, firstDeal}
 
@@ -126,3 +126,8 @@ unfolding startsWith
 deals-first number [] h = absurd (never h refl)
 deals-first number (b ∷ bs) h =
     ap (dealsFrom number) (lines-first b bs) ∙ deals-open number (firstLine (b ∷ bs)) _ (opens-first (b ∷ bs) ∙ h)
+
+-- from a place on: one line further, where that line opens none
+pub deals-further : (number : ℕ) (text : List ℕ) (at : ℕ) → at < length text → opensDeal (drop at text) ≡ false
+    → dealsFrom number (linesOf (drop at text)) ≡ dealsFrom (number + 1) (linesOf (drop (at + length (firstLine (drop at text))) text))
+deals-further number text at h k = ap (dealsFrom number) (lines-at text at h) ∙ deals-pass number (firstLine (drop at text)) _ (opens-first (drop at text) ∙ k)

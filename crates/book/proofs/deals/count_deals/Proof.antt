@@ -7,11 +7,12 @@ use mathlib.Core.Bool.{true, false}
 use native.Mathlib.Omega.{arith}
 use native.Mathlib.Numerals.{add-one}
 use lib.ListN.{length, drop}
+use lib.Seq.{drop-drop}
 use Rattle.base.proofs.Tests.{tests}
 use Rattle.text.specs.Text.{linesOf, firstLine}
 use Rattle.text.proofs.Lines.{lines-at, first-at-some, first-at-inside, rest-part, no-lines-at}
 use Rattle.book.specs.Deals.{opensDeal, dealsFrom}
-use Rattle.book.proofs.Grouping.{deals-open, deals-pass, deals-counted, no-deals, opens-first}
+use Rattle.book.proofs.Grouping.{deals-first, deals-further, deals-counted, no-deals}
 use Rattle.book.proofs.deals.count_deals.Statement.{statement}
 use Rattle.book.proofs.deals.count_deals.Tie as tie
 
@@ -35,15 +36,11 @@ module _ (lines : List ℕ) (at : ℕ) (h : at < length lines) where
 
   opened : opensDeal (drop at lines) ≡ true → toCome lines at ≡ toCome lines end + 1
   opened e =
-      ap (λ ls. length (dealsFrom 2 ls)) (lines-at lines at h)
-      ∙ ap length (deals-open 2 (firstLine (drop at lines)) _ (opens-first (drop at lines) ∙ e))
-      ∙ rw (deals-counted 3 2 (linesOf (drop end lines)), add-one)
+      ap length (deals-first 2 (drop at lines) e)
+      ∙ rw (drop-drop (length (firstLine (drop at lines))) at lines, deals-counted 3 2 (linesOf (drop end lines)), add-one)
 
   passed : opensDeal (drop at lines) ≡ false → toCome lines at ≡ toCome lines end
-  passed e =
-      ap (λ ls. length (dealsFrom 2 ls)) (lines-at lines at h)
-      ∙ ap length (deals-pass 2 (firstLine (drop at lines)) _ (opens-first (drop at lines) ∙ e))
-      ∙ deals-counted 3 2 _
+  passed e = ap length (deals-further 2 lines at h e) ∙ deals-counted 3 2 _
 
 loop-holds : tie.Need-loop-holds Inv-loop μ-loop
 loop-holds c = record { inside = omega arith; few = omega arith; counted = omega arith }

@@ -14,7 +14,7 @@ use Rattle.book.specs.Deals.{opensDeal, ownLines, dealsFrom}
 use Rattle.book.specs.Answers.{dealAnswer}
 use Rattle.book.specs.Working.{afterOpening, afterLine, answerAfter, firstDeal, ownFirst}
 use Rattle.book.specs.declared.progress.Progress.{Progress}
-use Rattle.book.proofs.Grouping.{deals-pass, own-more, own-over, own-opens-not, own-some, opens-first, opens-some}
+use Rattle.book.proofs.Grouping.{deals-further, own-more, own-over, own-opens-not, own-some, opens-first, opens-some}
 use Rattle.book.proofs.Answering.{answer-opened, answer-followed}
 use Rattle.book.proofs.reading.read_deal.Statement.{statement}
 use Rattle.book.proofs.reading.read_deal.Tie as tie
@@ -33,7 +33,7 @@ abbrev μ-loop : tie.MeasureT-loop
 μ-loop text number end progress₀ at₀ next₀ progress at next = length text - at
 
 -- one line of the deal further on
-module _ (text : List ℕ) (at next : ℕ) (h : at < length text) (k : opensDeal (drop at text) ≡ false) where
+module _ (text : List ℕ) (at : ℕ) (h : at < length text) (k : opensDeal (drop at text) ≡ false) where
   abbrev line : List ℕ
   line = firstLine (drop at text)
 
@@ -42,9 +42,6 @@ module _ (text : List ℕ) (at next : ℕ) (h : at < length text) (k : opensDeal
 
   own-next : ownLines (linesOf (drop at text)) ≡ line ∷ ownLines (linesOf (drop end text))
   own-next = ap ownLines (lines-at text at h) ∙ own-more line _ (opens-first (drop at text) ∙ k)
-
-  deals-next : dealsFrom next (linesOf (drop at text)) ≡ dealsFrom (next + 1) (linesOf (drop end text))
-  deals-next = ap (dealsFrom next) (lines-at text at h) ∙ deals-pass next line _ (opens-first (drop at text) ∙ k)
 
 line-end-requires : tie.Need-line-end-requires Inv-loop μ-loop
 line-end-requires c κs = omega arith
@@ -149,13 +146,13 @@ loop-again c =
       numbered = omega (arith, on e, l .inv .numbered);
       answered =
           l .inv .answered
-          ∙ ap (answerAfter (l .progress) (l .next)) (own-next text (l .at) (l .next) (on e .0) opens)
+          ∙ ap (answerAfter (l .progress) (l .next)) (own-next text (l .at) (on e .0) opens)
           ∙ answer-followed (l .progress) (l .next) _ _
-          ∙ ap (λ p. answerAfter p (l .next + 1) (ownLines (linesOf (drop (end text (l .at) (l .next) (on e .0) opens) text)))) (sym followed)
+          ∙ ap (λ p. answerAfter p (l .next + 1) (ownLines (linesOf (drop (end text (l .at) (on e .0) opens) text)))) (sym followed)
           ∙ ap (λ n. answerAfter (c .followed .result) (l .next + 1) (ownLines (linesOf (drop n text)))) (sym (e .line-end2 .ensures));
       others =
           l .inv .others
-          ∙ deals-next text (l .at) (l .next) (on e .0) opens
+          ∙ deals-further (l .next) text (l .at) (on e .0) opens
           ∙ ap (λ n. dealsFrom (l .next + 1) (linesOf (drop n text))) (sym (e .line-end2 .ensures));
     }
 
