@@ -53,7 +53,7 @@ line-not-40 d (GuaranteeLine g) h = not-40 _ d (guarantee-40 d g .0) h
 line-not-40 d (DealLine t) h = refl
 line-not-40 d Malformed h = refl
 
-line-accepted : (d : Deal) (line : Line) → eqb (lineRefusal d line) 0 ≡ true → accepted (withLine d line) ≡ true
+pub line-accepted : (d : Deal) (line : Line) → eqb (lineRefusal d line) 0 ≡ true → accepted (withLine d line) ≡ true
 unfolding lineRefusal withLine
 line-accepted d (CollateralLine c) e = collateral-added-accepted d c (eqb-true _ 0 e)
 line-accepted d (GuaranteeLine g) e = guarantee-added-accepted d g (eqb-true _ 0 e)

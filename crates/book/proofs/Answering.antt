@@ -4,68 +4,77 @@ use mathlib.Core.Path.{_≡_, refl, sym, _∙_, ap}
 use mathlib.Core.Bool.{Bool, true, false}
 use mathlib.Core.List.{List, [], _∷_, _++_}
 use native.Mathlib.Omega.{arith}
+use borrow.Author.Tests.{eq-eqb}
 use lib.Dec.{eqb}
 use lib.ListN.{length, length-append}
 use Rattle.base.proofs.Choice.{if-true, if-false}
+use Rattle.base.specs.FirstMet.{firstOr}
+use Rattle.deal.specs.Deals.{accepted, addCollateralTests, addCollateralRefusal, addGuaranteeTests, addGuaranteeRefusal, openedDeal}
+use Rattle.deal.specs.Terms.{termsRefusal}
 use Rattle.deal.specs.declared.deal.Deal.{Deal}
+use Rattle.deal.specs.declared.terms.Terms.{Terms}
 use Rattle.relief.specs.Report.{reportOf}
 use Rattle.lines.specs.Lines.{lineOf}
 use Rattle.lines.specs.declared.line.Line.{Line}
+use Rattle.lines.specs.declared.line.Line.the-variants.{DealLine, CollateralLine, GuaranteeLine, Malformed}
 use Rattle.book.specs.Deals.{DealLines}
-use Rattle.book.specs.Answers.{lineRefusal, withLine, refusedAt, reported, linesAnswer, dealAnswer, answersFrom}
-use Rattle.book.specs.Working.{progressOf, afterOpening, afterLine, answerAfter}
-use Rattle.book.specs.declared.progress.Progress.{Progress}
+use Rattle.book.specs.Answers.{openingRefusal, openedBy, lineRefusal, withLine, refusedAt, reported, linesAnswer, dealAnswer, answersFrom}
+use Rattle.book.specs.Working.{collateralRefusalAt, guaranteeRefusalAt, furtherRefusal, termsSaid}
 
--- a deal's answer, from the line that opens it
-pub answer-opened : (deal : DealLines) → dealAnswer deal ≡ answerAfter (afterOpening (deal .number) (lineOf (deal .opening))) (deal .number + 1) (deal .further)
-unfolding dealAnswer answerAfter afterOpening
-answer-opened deal = refl
+-- three numbers, one by one
+pub three : {a b c x y z : ℕ} → a ≡ x → b ≡ y → c ≡ z → a ∷ b ∷ c ∷ [] ≡ x ∷ y ∷ z ∷ []
+three p q r = rw (p, q, r)
 
-lines-more : (number : ℕ) (d : Deal) (line : List ℕ) (lines : List (List ℕ))
-    → linesAnswer number d (line ∷ lines) ≡ answerAfter (progressOf (lineRefusal d (lineOf line)) number (withLine d (lineOf line))) (number + 1) lines
-unfolding linesAnswer answerAfter
-lines-more number d line lines = refl
+-- the line that opens a deal, by its terms
+opened-by : (line : Line) → openedBy line ≡ openedDeal (termsSaid line)
+unfolding openedBy termsSaid
+opened-by (DealLine t) = refl
+opened-by (CollateralLine c) = refl
+opened-by (GuaranteeLine g) = refl
+opened-by Malformed = refl
 
-pub answer-refused : (p : Progress) (number : ℕ) (lines : List (List ℕ)) → eqb (p .refusal) 0 ≡ false → answerAfter p number lines ≡ refusedAt (p .refusal) (p .number)
-unfolding answerAfter
-answer-refused p number lines e = if-false _ _ _ e
+pub opening-terms : (line : Line) → openingRefusal line ≡ 0 → termsRefusal (termsSaid line) ≡ 0
+unfolding openingRefusal termsSaid
+opening-terms (DealLine t) e = e
+opening-terms (CollateralLine c) e = absurd (omega (arith, e))
+opening-terms (GuaranteeLine g) e = absurd (omega (arith, e))
+opening-terms Malformed e = absurd (omega (arith, e))
 
-pub answer-accepted : (p : Progress) (number : ℕ) (lines : List (List ℕ)) → eqb (p .refusal) 0 ≡ true → answerAfter p number lines ≡ linesAnswer number (p .deal) lines
-unfolding answerAfter
-answer-accepted p number lines e = if-true _ _ _ e
+-- a deal's answer from that line on
+pub opened-answer : (deal : DealLines) → openingRefusal (lineOf (deal .opening)) ≡ 0
+    → dealAnswer deal ≡ linesAnswer (deal .number + 1) (openedDeal (termsSaid (lineOf (deal .opening)))) (deal .further)
+unfolding dealAnswer
+opened-answer deal e =
+    if-true _ _ _ (eq-eqb _ 0 e)
+    ∙ ap (λ d. linesAnswer (deal .number + 1) d (deal .further)) (opened-by (lineOf (deal .opening)))
 
--- in numbers
-pub refused-answer : (refusal number : ℕ) → refusedAt refusal number ≡ refusal ∷ number ∷ 0 ∷ []
-unfolding refusedAt
-refused-answer refusal number = refl
+pub unopened-answer : (deal : DealLines) → eqb (openingRefusal (lineOf (deal .opening))) 0 ≡ false
+    → dealAnswer deal ≡ openingRefusal (lineOf (deal .opening)) ∷ deal .number ∷ 0 ∷ []
+unfolding dealAnswer refusedAt
+unopened-answer deal e = if-false _ _ _ e
 
+-- from one more line
+module _ (number : ℕ) (d : Deal) (line : List ℕ) (lines : List (List ℕ)) where
+  pub accepted-line : eqb (lineRefusal d (lineOf line)) 0 ≡ true → linesAnswer number d (line ∷ lines) ≡ linesAnswer (number + 1) (withLine d (lineOf line)) lines
+  unfolding linesAnswer
+  accepted-line e = if-true _ _ _ e
+
+  pub refused-line : eqb (lineRefusal d (lineOf line)) 0 ≡ false → linesAnswer number d (line ∷ lines) ≡ lineRefusal d (lineOf line) ∷ number ∷ 0 ∷ []
+  unfolding linesAnswer refusedAt
+  refused-line e = if-false _ _ _ e
+
+-- and after the last
 pub no-more-lines : (number : ℕ) (d : Deal) → linesAnswer number d [] ≡ 0 ∷ reportOf d .exposure ∷ reportOf d .weighted ∷ []
 unfolding linesAnswer reported
 no-more-lines number d = refl
 
--- and from one more line
-module _ (p : Progress) (number : ℕ) (line : Line) where
-  pub line-counts : eqb (p .refusal) 0 ≡ true → afterLine p number line ≡ progressOf (lineRefusal (p .deal) line) number (withLine (p .deal) line)
-  unfolding afterLine
-  line-counts e = if-true _ _ _ e
-
-  pub line-passed : eqb (p .refusal) 0 ≡ false → afterLine p number line ≡ p
-  unfolding afterLine
-  line-passed e = if-false _ _ _ e
-
-pub answer-followed : (p : Progress) (number : ℕ) (line : List ℕ) (lines : List (List ℕ))
-    → answerAfter p number (line ∷ lines) ≡ answerAfter (afterLine p number (lineOf line)) (number + 1) lines
-answer-followed p number line lines = go (eqb (p .refusal) 0) refl
-  where
-    go : (t : Bool) → eqb (p .refusal) 0 ≡ t → answerAfter p number (line ∷ lines) ≡ answerAfter (afterLine p number (lineOf line)) (number + 1) lines
-    go true e =
-        answer-accepted p number (line ∷ lines) e
-        ∙ lines-more number (p .deal) line lines
-        ∙ ap (λ q. answerAfter q (number + 1) lines) (sym (line-counts p number (lineOf line) e))
-    go false e =
-        answer-refused p number (line ∷ lines) e
-        ∙ sym (answer-refused p (number + 1) lines e)
-        ∙ ap (λ q. answerAfter q (number + 1) lines) (sym (line-passed p number (lineOf line) e))
+-- where a deal is accepted, its counts alone decide how a line is refused
+pub refusal-counts : (d : Deal) (line : Line) → accepted d ≡ true → lineRefusal d line ≡ furtherRefusal (d .collateral .count) (d .guarantees .count) line
+unfolding lineRefusal furtherRefusal addCollateralRefusal addCollateralTests addGuaranteeRefusal addGuaranteeTests collateralRefusalAt guaranteeRefusalAt firstOr
+refusal-counts d (CollateralLine c) h = rw h (if-false _ _ _ refl)
+refusal-counts d (GuaranteeLine g) h = rw h (if-false _ _ _ refl)
+refusal-counts d (DealLine t) h = refl
+refusal-counts d Malformed h = refl
 
 -- the answers to several deals
 pub no-answers : (serial : ℕ) → answersFrom serial [] ≡ []
@@ -77,18 +86,25 @@ unfolding answersFrom
 answers-more serial deal deals = refl
 
 -- a deal's answer is three numbers behind its serial
-after-three : (p : Progress) (number : ℕ) (lines : List (List ℕ)) → length (answerAfter p number lines) ≡ 3
-after-three p number [] = go (eqb (p .refusal) 0) refl
+lines-three : (number : ℕ) (d : Deal) (lines : List (List ℕ)) → length (linesAnswer number d lines) ≡ 3
+lines-three number d [] = ap length (no-more-lines number d)
+lines-three number d (line ∷ lines) = go (eqb (lineRefusal d (lineOf line)) 0) refl (lines-three (number + 1) (withLine d (lineOf line)) lines)
   where
-    go : (t : Bool) → eqb (p .refusal) 0 ≡ t → length (answerAfter p number []) ≡ 3
-    go true e = ap length (answer-accepted p number [] e ∙ no-more-lines number (p .deal))
-    go false e = ap length (answer-refused p number [] e ∙ refused-answer (p .refusal) (p .number))
-after-three p number (line ∷ lines) = ap length (answer-followed p number line lines) ∙ after-three _ (number + 1) lines
+    go : (t : Bool) → eqb (lineRefusal d (lineOf line)) 0 ≡ t → length (linesAnswer (number + 1) (withLine d (lineOf line)) lines) ≡ 3 → length (linesAnswer number d (line ∷ lines)) ≡ 3
+    go true e later = ap length (accepted-line number d line lines e) ∙ later
+    go false e later = ap length (refused-line number d line lines e)
+
+deal-three : (deal : DealLines) → length (dealAnswer deal) ≡ 3
+unfolding dealAnswer
+deal-three deal = go (eqb (openingRefusal (lineOf (deal .opening))) 0) refl
+  where
+    go : (t : Bool) → eqb (openingRefusal (lineOf (deal .opening))) 0 ≡ t → length (dealAnswer deal) ≡ 3
+    go true e = ap length (if-true _ _ _ e) ∙ lines-three (deal .number + 1) (openedBy (lineOf (deal .opening))) (deal .further)
+    go false e = ap length (unopened-answer deal e)
 
 pub answers-long : (serial : ℕ) (deals : List DealLines) → length (answersFrom serial deals) ≡ 4 * length deals
 answers-long serial [] = ap length (no-answers serial)
 answers-long serial (deal ∷ deals) =
-    let three = ap length (answer-opened deal) ∙ after-three _ (deal .number + 1) (deal .further) in
     let more = length-append (dealAnswer deal) (answersFrom (serial + 1) deals) in
     let rest = answers-long (serial + 1) deals in
-    ap length (answers-more serial deal deals) ∙ omega (arith, three, more, rest)
+    ap length (answers-more serial deal deals) ∙ omega (arith, deal-three deal, more, rest)

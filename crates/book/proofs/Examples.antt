@@ -11,6 +11,7 @@ use Rattle.text.specs.Bytes.{byte, bytes}
 use Rattle.text.specs.Decimal.{decimalFrom}
 use Rattle.text.specs.Text.{tab, startsWith, extendFirst, linesOf}
 use Rattle.text.proofs.Bytes.{only}
+use Rattle.deal.specs.Fields.{collateralIn, guaranteeIn, termsIn}
 use Rattle.deal.specs.Deals.{openedDeal, addCollateralTests, addCollateralRefusal, withCollateral, addGuaranteeTests, addGuaranteeRefusal, withGuarantee}
 use Rattle.relief.proofs.Computed.{computed}
 use Rattle.lines.specs.Numbers.{digitsOf, numberAllowed, numberRead, numberOf}
@@ -23,7 +24,7 @@ use Rattle.book.specs.declared.reply.Reply.{Reply}
 
 -- `unfolding worked` opens every definition that an answer comes from
 unfoldable pub worked : List ℕ → List ℕ → List ℕ
-unfolding computed openedDeal addCollateralTests addCollateralRefusal withCollateral addGuaranteeTests addGuaranteeRefusal withGuarantee firstOr within if_then_else_ startsWith extendFirst linesOf decimalFrom digitsOf numberAllowed numberRead numberOf fieldOf isEnd andThen withNumber fieldsOf dealLine collateralLine guaranteeLine ifRead lineOf ownLines dealsFrom openingRefusal openedBy lineRefusal withLine refusedAt reported linesAnswer dealAnswer answersFrom bookTests bookRefusal answeredDeals bookReply resultsAfter
+unfolding computed openedDeal addCollateralTests addCollateralRefusal withCollateral addGuaranteeTests addGuaranteeRefusal withGuarantee firstOr within if_then_else_ startsWith extendFirst linesOf decimalFrom digitsOf numberAllowed numberRead numberOf fieldOf isEnd andThen withNumber fieldsOf dealLine collateralLine guaranteeLine termsIn collateralIn guaranteeIn ifRead lineOf ownLines dealsFrom openingRefusal openedBy lineRefusal withLine refusedAt reported linesAnswer dealAnswer answersFrom bookTests bookRefusal answeredDeals bookReply resultsAfter
 worked book before = resultsAfter book before
 
 abbrev pub example : List ℕ

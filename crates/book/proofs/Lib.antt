@@ -3,4 +3,6 @@ pub mod Answering
 pub mod Apart
 pub mod Examples
 pub mod Grouping
+pub mod Held
+pub mod Passing
 pub mod Refusing

@@ -3,33 +3,40 @@ use Prim.Native.Nat.{ℕ, _+_, _≤_}
 use mathlib.Core.Bool.{Bool, false, not}
 use mathlib.Core.Path.{_≡_}
 use mathlib.Core.List.{List, [], _∷_}
-use lib.Dec.{eqb}
+use lib.Dec.{leb}
 use lib.ListN.{drop, length}
-use Rattle.base.specs.Choice.{if_then_else_}
+use Rattle.base.specs.FirstMet.{_when_, firstMet}
 use Rattle.text.specs.Text.{firstLine, linesOf}
-use Rattle.deal.specs.declared.deal.Deal.{Deal}
+use Rattle.deal.specs.Items.{collateralTests, guaranteeTests, listLimit}
+use Rattle.deal.specs.Terms.{termsOf}
+use Rattle.deal.specs.declared.collateral.Collateral.{Collateral}
+use Rattle.deal.specs.declared.guarantee.Guarantee.{Guarantee}
+use Rattle.deal.specs.declared.terms.Terms.{Terms}
 use Rattle.lines.specs.declared.line.Line.{Line}
+use Rattle.lines.specs.declared.line.Line.the-variants.{DealLine, CollateralLine, GuaranteeLine, Malformed}
 use Rattle.book.specs.Deals.{DealLines, opensDeal, ownLines, dealsFrom}
-use Rattle.book.specs.Answers.{openingRefusal, openedBy, lineRefusal, withLine, refusedAt, linesAnswer}
-use Rattle.book.specs.declared.progress.Progress.{Progress}
+use Rattle.book.specs.Answers.{malformedLine}
 
-abbrev pub progressOf : ℕ → ℕ → Deal → Progress
-progressOf refusal number deal = record { refusal = refusal; number = number; deal = deal }
+-- the terms on the line that opens a deal, zeros where it is no line D
+unfoldable pub termsSaid : Line → Terms
+termsSaid (DealLine terms) = terms
+termsSaid (CollateralLine c) = termsOf 0 0 0 0 0 0 0 0 0 0
+termsSaid (GuaranteeLine g) = termsOf 0 0 0 0 0 0 0 0 0 0
+termsSaid Malformed = termsOf 0 0 0 0 0 0 0 0 0 0
 
--- after the line that opens a deal
-unfoldable pub afterOpening : ℕ → Line → Progress
-afterOpening number line = progressOf (openingRefusal line) number (openedBy line)
+-- how an item behind so many is refused, where the deal is accepted: "6 that list is full; then 1, 2, 3, 4, 5 .."
+unfoldable pub collateralRefusalAt : ℕ → Collateral → ℕ
+collateralRefusalAt count c = firstMet (6 when leb listLimit count ∷ collateralTests c)
 
--- after one more line, which is read only where none was refused
-unfoldable pub afterLine : Progress → ℕ → Line → Progress
-afterLine p number line =
-    if eqb (p .refusal) 0
-    then progressOf (lineRefusal (p .deal) line) number (withLine (p .deal) line)
-    else p
+unfoldable pub guaranteeRefusalAt : ℕ → Guarantee → ℕ
+guaranteeRefusalAt count g = firstMet (6 when leb listLimit count ∷ guaranteeTests g)
 
--- the answer, where these lines follow
-unfoldable pub answerAfter : Progress → ℕ → List (List ℕ) → List ℕ
-answerAfter p next further = if eqb (p .refusal) 0 then linesAnswer next (p .deal) further else refusedAt (p .refusal) (p .number)
+-- how a further line is refused, where the deal is accepted and its lists hold so many
+unfoldable pub furtherRefusal : ℕ → ℕ → Line → ℕ
+furtherRefusal collateral guarantees (CollateralLine c) = collateralRefusalAt collateral c
+furtherRefusal collateral guarantees (GuaranteeLine g) = guaranteeRefusalAt guarantees g
+furtherRefusal collateral guarantees (DealLine terms) = malformedLine
+furtherRefusal collateral guarantees Malformed = malformedLine
 
 -- whether a text starts with a line that opens no deal
 unfoldable pub ownFirst : List ℕ → Bool
@@ -51,3 +58,11 @@ pub record DealRead (number : ℕ) (text : List ℕ) (end next : ℕ) : Type 0 w
   pub numbered : next ≤ number + end
   pub begins : ownFirst (drop end text) ≡ false
   pub others : dealsFrom (number + 1) (linesOf (drop (length (firstLine text)) text)) ≡ dealsFrom next (linesOf (drop end text))
+
+-- lines of a deal passed from a place on, the first of which has this number: where they end, and the number of the line there
+pub record LinesRead (text : List ℕ) (start number end next : ℕ) : Type 0 where
+  pub inside : end ≤ length text
+  pub onward : start ≤ end
+  pub numbered : next + start ≤ number + end
+  pub begins : ownFirst (drop end text) ≡ false
+  pub others : dealsFrom number (linesOf (drop start text)) ≡ dealsFrom next (linesOf (drop end text))

@@ -5,7 +5,7 @@ use mathlib.Core.Path.{_≡_, refl}
 use mathlib.Core.Bool.{true, false, not, _&&_}
 use native.Mathlib.Omega.{arith}
 use lib.Dec.{leb, eqb}
-use borrow.Author.Tests.{le-leb, leb-false, eq-eqb}
+use borrow.Author.Tests.{le-leb, leb-false, eq-eqb, eqb-true}
 use Rattle.base.specs.All.{all}
 use Rattle.base.proofs.Choice.{if-true, if-false}
 use Rattle.base.proofs.Every.{both}
@@ -20,6 +20,15 @@ use Rattle.deal.specs.declared.collateral.Collateral.{Collateral}
 use Rattle.deal.specs.declared.guarantee.Guarantee.{Guarantee}
 use Rattle.deal.specs.declared.deal.Deal.{Deal}
 use Rattle.deal.proofs.Cases.{zero-refused}
+
+-- what an accepted record is made of
+pub accepted-parts : (d : Deal) → accepted d ≡ true →
+    (termsRefusal (d .terms) ≡ 0) × ((collateralListAllowed (d .collateral) ≡ true) × (guaranteeListAllowed (d .guarantees) ≡ true))
+unfolding accepted
+accepted-parts d e =
+    let outer = both (eqb (termsRefusal (d .terms)) 0 && collateralListAllowed (d .collateral)) (guaranteeListAllowed (d .guarantees)) e in
+    let inner = both (eqb (termsRefusal (d .terms)) 0) (collateralListAllowed (d .collateral)) (outer .0) in
+    (eqb-true _ 0 (inner .0), (inner .1, outer .1))
 
 -- Opening
 
@@ -46,7 +55,7 @@ module _ (d : Deal) (c : Collateral) where
   collateral-added e = if-true _ _ _ (eq-eqb _ 0 e)
 
   -- what an addition that is not refused tells
-  collateral-fits : addCollateralRefusal d c ≡ 0 → (accepted d ≡ true) × (d .collateral .count < listLimit) × (collateralRefusal c ≡ 0)
+  pub collateral-fits : addCollateralRefusal d c ≡ 0 → (accepted d ≡ true) × (d .collateral .count < listLimit) × (collateralRefusal c ≡ 0)
   unfolding addCollateralRefusal addCollateralTests collateralTests collateralRefusal
   collateral-fits e =
       let n = none-exactly (addCollateralTests d c) refl e in
@@ -74,7 +83,7 @@ module _ (d : Deal) (g : Guarantee) where
   guarantee-added e = if-true _ _ _ (eq-eqb _ 0 e)
 
   -- what an addition that is not refused tells
-  guarantee-fits : addGuaranteeRefusal d g ≡ 0 → (accepted d ≡ true) × (d .guarantees .count < listLimit) × (guaranteeRefusal g ≡ 0)
+  pub guarantee-fits : addGuaranteeRefusal d g ≡ 0 → (accepted d ≡ true) × (d .guarantees .count < listLimit) × (guaranteeRefusal g ≡ 0)
   unfolding addGuaranteeRefusal addGuaranteeTests guaranteeTests guaranteeRefusal
   guarantee-fits e =
       let n = none-exactly (addGuaranteeTests d g) refl e in

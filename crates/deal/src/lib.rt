@@ -4,6 +4,7 @@ pub mod answer;
 pub mod asset;
 pub mod collateral;
 pub mod deal;
+pub mod fields;
 pub mod guarantee;
 pub mod party;
 pub mod ranges;

@@ -13,6 +13,7 @@ use Rattle.text.specs.Text.{tab, lineFeed}
 use Rattle.text.proofs.Bytes.{only}
 use Rattle.text.specs.Decimal.{decimalFrom}
 use Rattle.lines.specs.Numbers.{digitsOf, numberAllowed, numberRead, numberOf}
+use Rattle.deal.specs.Fields.{collateralIn, guaranteeIn, termsIn}
 use Rattle.lines.specs.Fields.{fieldOf, isEnd, andThen, withNumber, fieldsOf}
 use Rattle.lines.specs.Lines.{dealLine, collateralLine, guaranteeLine, ifRead, lineOf}
 use Rattle.lines.specs.declared.number.Number.{Number}
@@ -77,7 +78,7 @@ lines-read :
     ∷ []
     )
     ≡ said
-unfolding lineOf dealLine collateralLine guaranteeLine ifRead fieldsOf withNumber andThen isEnd fieldOf numberOf numberRead numberAllowed digitsOf decimalFrom within if_then_else_
+unfolding lineOf dealLine collateralLine guaranteeLine termsIn collateralIn guaranteeIn ifRead fieldsOf withNumber andThen isEnd fieldOf numberOf numberRead numberAllowed digitsOf decimalFrom within if_then_else_
 lines-read = refl
 
 -- "unknown letter, wrong number of fields, bad number, or no line feed"
@@ -107,7 +108,7 @@ ill =
     ∷ []
 
 all-malformed : map lineOf ill ≡ replicate 16 Malformed
-unfolding lineOf dealLine collateralLine guaranteeLine ifRead fieldsOf withNumber andThen isEnd fieldOf numberOf numberRead numberAllowed digitsOf decimalFrom within if_then_else_
+unfolding lineOf dealLine collateralLine guaranteeLine termsIn collateralIn guaranteeIn ifRead fieldsOf withNumber andThen isEnd fieldOf numberOf numberRead numberAllowed digitsOf decimalFrom within if_then_else_
 all-malformed = refl
 
 -- each field in its place, and none cut to a narrower width
@@ -141,7 +142,7 @@ fields-in-place :
       unreflected = 9123456789008;
     })
     ∷ []
-unfolding lineOf dealLine collateralLine guaranteeLine ifRead fieldsOf withNumber andThen isEnd fieldOf numberOf numberRead numberAllowed digitsOf decimalFrom within if_then_else_
+unfolding lineOf dealLine collateralLine guaranteeLine termsIn collateralIn guaranteeIn ifRead fieldsOf withNumber andThen isEnd fieldOf numberOf numberRead numberAllowed digitsOf decimalFrom within if_then_else_
 fields-in-place = refl
 
 -- of all bytes the tab alone parts fields, and the line feed alone ends them, with nothing before it

@@ -9,6 +9,7 @@ use lib.Seq.{getD-drop}
 use Rattle.base.specs.Choice.{if_then_else_}
 use Rattle.base.specs.Places.{inPlaces}
 use Rattle.base.proofs.Placed.{places-hold}
+use Rattle.deal.specs.Fields.{collateralIn, guaranteeIn, termsIn}
 use Rattle.lines.specs.Fields.{fieldsHeld}
 use Rattle.lines.specs.Lines.{dealLine, collateralLine, guaranteeLine, ifRead, ifHeld}
 use Rattle.lines.specs.declared.line.Line.{Line}
@@ -32,13 +33,13 @@ held said same none = refl
 held said same (some vs) = same vs
 
 pub deal-held : (o : Option (List ℕ)) → ifHeld dealLine (fieldsHeld o) ≡ ifRead dealLine o
-unfolding dealLine
+unfolding dealLine termsIn
 deal-held = held dealLine (λ vs. simp (held-at vs))
 
 pub collateral-held : (o : Option (List ℕ)) → ifHeld collateralLine (fieldsHeld o) ≡ ifRead collateralLine o
-unfolding collateralLine
+unfolding collateralLine collateralIn
 collateral-held = held collateralLine (λ vs. simp (held-at vs))
 
 pub guarantee-held : (o : Option (List ℕ)) → ifHeld guaranteeLine (fieldsHeld o) ≡ ifRead guaranteeLine o
-unfolding guaranteeLine
+unfolding guaranteeLine guaranteeIn
 guarantee-held = held guaranteeLine (λ vs. simp (held-at vs))

@@ -54,7 +54,7 @@ fn known_for_guarantees(terms: Terms, known: ScaledHaircuts) -> ScaledHaircuts
 }
 
 // All zeros, beside the answer that the record is not accepted.
-fn refused() -> Report
+pub fn refused() -> Report
     ensures { λ r. ⌜ r ≡ refusedReport ⌝ }
 {
     let no_collateral = CollateralReport {
@@ -76,7 +76,7 @@ fn refused() -> Report
     }
 }
 
-fn full_report(terms: Terms, collateral: CollateralList, guarantees: GuaranteeList) -> Report
+pub fn full_report(terms: Terms, collateral: CollateralList, guarantees: GuaranteeList) -> Report
     requires { ⌜ (termsRefusal terms ≡ 0) × ((collateralListAllowed collateral ≡ true) × (guaranteeListAllowed guarantees ≡ true)) ⌝ }
     ensures { λ r. ⌜ r ≡ fullReport table2019 terms (countedCollateral collateral) (countedGuarantees guarantees) ⌝ }
 {

@@ -1,43 +1,122 @@
--- `book::reading::answer_deal` meets its contract: the lines read, or the first refused one, decide. Assumes nothing.
-use Prim.Native.Nat.{ℕ}
-use mathlib.Core.Path.{sym, _∙_, ap}
-use mathlib.Core.List.{List, [], _∷_}
-use borrow.Author.Tests.{eq-eqb, ne-eqb}
+-- `book::reading::answer_deal` meets its contract: the line that opens the deal, then those behind it. Assumes nothing.
+use Prim.Native.Nat.{ℕ, _+_, _≤_}
+use mathlib.Core.Path.{_≡_, sym, _∙_, ap}
+use mathlib.Core.List.{List}
+use native.Mathlib.Omega.{arith}
+use borrow.Author.Tests.{ne-eqb}
+use lib.ListN.{length, take, drop}
+use lib.Seq.{length-take-le}
 use Rattle.base.proofs.Tests.{tests}
-use Rattle.relief.specs.declared.report.Report.{Report}
-use Rattle.book.proofs.Answering.{answer-refused, answer-accepted, refused-answer, no-more-lines}
+use Rattle.text.specs.Text.{firstLine, linesOf}
+use Rattle.text.proofs.Lines.{first-at-some, first-inside, first-taken}
+use Rattle.deal.specs.Deals.{openedDeal}
+use Rattle.deal.specs.Terms.{termsRefusal}
+use Rattle.deal.specs.declared.terms.Terms.{Terms}
+use Rattle.lines.specs.Lines.{lineOf}
+use Rattle.book.specs.Answers.{openingRefusal, linesAnswer}
+use Rattle.book.specs.Deals.{ownLines}
+use Rattle.book.specs.Working.{firstDeal, termsSaid}
+use Rattle.book.proofs.Answering.{three, opened-answer, opening-terms, unopened-answer}
+use Rattle.book.proofs.Grouping.{opens-some}
+use Rattle.book.proofs.Passing.{deal-read}
 use Rattle.book.proofs.reading.answer_deal.Statement.{statement}
 use Rattle.book.proofs.reading.answer_deal.Tie as tie
 
-abbrev figures : Report → List ℕ
-figures report = 0 ∷ report .exposure ∷ report .weighted ∷ []
+line-end-requires : tie.Need-line-end-requires
+line-end-requires c κs = omega arith
 
-read-deal-requires : tie.Need-read-deal-requires
-read-deal-requires c κs = search tests
+-- where the first line ends
+module _ (c : tie.After-line-end) where
+  abbrev text : List ℕ
+  text = c .before .before .args .text .now
+
+  ends : c .line-end .result ≡ length (firstLine text)
+  ends = omega (arith, c .line-end .ensures)
+
+  inside : c .line-end .result ≤ length text
+  inside = omega (arith, ends, first-inside text)
+
+slice-aggregate-read-line : tie.Need-slice-aggregate-read-line
+slice-aggregate-read-line c = sym (length-take-le _ _ (inside (c .before)))
+
+read-line-requires : tie.Need-read-line-requires
+read-line-requires c κs = tt
+
+opening-refusal-requires : tie.Need-opening-refusal-requires
+opening-refusal-requires c κs = tt
+
+-- what it says, and how it is refused
+module _ (c : tie.After-opening-refusal) where
+  abbrev line-ended : tie.After-line-end
+  line-ended = c .before .before .before
+
+  read : c .before .read-line .result ≡ lineOf (firstLine (text line-ended))
+  read = c .before .read-line .ensures ∙ ap lineOf (ap (λ n. take n (text line-ended)) (ends line-ended) ∙ first-taken (text line-ended))
+
+  refusal : c .opening-refusal .result ≡ openingRefusal (lineOf (firstLine (text line-ended)))
+  refusal = c .opening-refusal .ensures ∙ ap openingRefusal read
+
+refused-requires : tie.Need-refused-requires
+refused-requires c κs =
+    let e = line-ended (c .before) in
+    (inside e, omega (arith, e .before .before .pre .1))
 
 returns : tie.Need-returns
 returns c =
-    let r = c .before .before .before in
-    let p = r .read-deal .result .progress in (
-      r .read-deal .ensures .0,
-      r .read-deal .ensures .1
-          ∙ answer-refused p (r .read-deal .result .next) [] (ne-eqb _ _ (c .if1 .taken))
-          ∙ refused-answer (p .refusal) (p .number),
+    let o = c .before .before in
+    let e = line-ended o in
+    let s = e .before .before in
+    let r = c .refused .ensures in
+    let told = refusal o in (
+      deal-read (text e) (s .args .number) _ _ (s .pre .0) (rw (ends e) at (r .1)),
+      unopened-answer (firstDeal (s .args .number) (text e)) (rw told at (ne-eqb _ _ (c .before .if1 .taken)))
+          ∙ sym (three (r .0 .0 ∙ told) (r .0 .1 .0) (r .0 .1 .1)),
     )
 
-of-requires : tie.Need-of-requires
-of-requires c κs = search tests
+add-opened : tie.Need-add-opened
+add-opened c = search tests
+
+terms-said-requires : tie.Need-terms-said-requires
+terms-said-requires c κs = tt
+
+-- the terms on it
+said : (c : tie.After-terms-said) → (c .terms-said .result ≡ termsSaid (lineOf (firstLine (text (line-ended (c .before .before)))))) × (termsRefusal (c .terms-said .result) ≡ 0)
+said c =
+    let o = c .before .before in
+    let e = c .terms-said .ensures ∙ ap termsSaid (read o) in
+    (e, ap termsRefusal e ∙ opening-terms _ (sym (refusal o) ∙ c .before .if1 .left))
+
+opened-requires : tie.Need-opened-requires
+opened-requires c κs =
+    let o = c .before .before in
+    let e = line-ended o in
+    (said c .1, (inside e, omega (arith, e .before .before .pre .1, first-at-some (text e) 0 (opens-some (text e) (e .before .before .pre .0)), ends e)))
 
 returns-2 : tie.Need-returns-2
 returns-2 c =
-    let r = c .before .before .before .before .before in
-    let p = r .read-deal .result .progress in (
-      r .read-deal .ensures .0,
-      r .read-deal .ensures .1
-          ∙ answer-accepted p (r .read-deal .result .next) [] (eq-eqb _ _ (c .before .before .if1 .left))
-          ∙ no-more-lines (r .read-deal .result .next) (p .deal)
-          ∙ ap figures (sym (c .of .ensures .1)),
+    let t = c .before in
+    let o = t .before .before in
+    let e = line-ended o in
+    let s = e .before .before in
+    let lines : ℕ → Terms → List ℕ = λ n terms. linesAnswer (s .args .number + 1) (openedDeal terms) (ownLines (linesOf (drop n (text e)))) in (
+      deal-read (text e) (s .args .number) _ _ (s .pre .0) (rw (ends e) at (c .opened .ensures .0)),
+      opened-answer (firstDeal (s .args .number) (text e)) (sym (refusal o) ∙ t .before .if1 .left)
+          ∙ ap (lines (length (firstLine (text e)))) (sym (said t .0))
+          ∙ ap (λ n. lines n (t .terms-said .result)) (sym (ends e))
+          ∙ c .opened .ensures .1,
     )
 
 pub answer-deal-spec : {M : Type 1} → statement M
-answer-deal-spec = tie.close (tie.spec read-deal-requires returns of-requires returns-2)
+answer-deal-spec =
+    tie.close
+    (tie.spec
+    line-end-requires
+    slice-aggregate-read-line
+    read-line-requires
+    opening-refusal-requires
+    refused-requires
+    returns
+    add-opened
+    terms-said-requires
+    opened-requires
+    returns-2)

@@ -1,9 +1,12 @@
--- `lines::line::collateral_line` meets its contract: each field is read from its place. Assumes nothing.
-use mathlib.Core.Path.{sym}
+-- `lines::line::collateral_line` meets its contract: what the fields say, if they could be read. Assumes nothing.
+use mathlib.Core.Path.{_≡_, sym, ap, _∙_}
+use native.Mathlib.Omega.{arith}
+use lib.ListN.{length}
 use borrow.Author.Tests.{not-true, not-false}
 use Rattle.base.proofs.Choice.{if-true, if-false}
 use Rattle.base.proofs.Tests.{tests}
 use Rattle.lines.specs.Lines.{collateralLine, ifHeld}
+use Rattle.lines.specs.declared.line.Line.the-variants.{CollateralLine}
 use Rattle.lines.proofs.line.collateral_line.Statement.{statement}
 use Rattle.lines.proofs.line.collateral_line.Tie as tie
 
@@ -11,57 +14,17 @@ returns : tie.Need-returns
 unfolding ifHeld
 returns c = sym (if-false _ _ _ (not-true _ (c .if1 .taken)))
 
-array-read-t6 : tie.Need-array-read-t6
-array-read-t6 c = search tests
+slice-aggregate-collateral-in : tie.Need-slice-aggregate-collateral-in
+slice-aggregate-collateral-in c = search tests
 
-array-read-t9 : tie.Need-array-read-t9
-array-read-t9 c = search tests
-
-array-read-t12 : tie.Need-array-read-t12
-array-read-t12 c = search tests
-
-array-read-t15 : tie.Need-array-read-t15
-array-read-t15 c = search tests
-
-array-read-t19 : tie.Need-array-read-t19
-array-read-t19 c = search tests
-
-array-read-t22 : tie.Need-array-read-t22
-array-read-t22 c = search tests
-
-array-read-t25 : tie.Need-array-read-t25
-array-read-t25 c = search tests
-
-array-read-t28 : tie.Need-array-read-t28
-array-read-t28 c = search tests
-
-array-read-t31 : tie.Need-array-read-t31
-array-read-t31 c = search tests
-
-array-read-t34 : tie.Need-array-read-t34
-array-read-t34 c = search tests
-
-array-read-t37 : tie.Need-array-read-t37
-array-read-t37 c = search tests
+collateral-in-requires : tie.Need-collateral-in-requires
+collateral-in-requires c κs =
+    let e : length (c .before .before .before .before .args .fields .values) ≡ 11 = search tests in
+    omega (arith, e)
 
 returns-2 : tie.Need-returns-2
 unfolding ifHeld collateralLine
-returns-2 c = sym (if-true _ _ _ (not-false _ (c .before .if1 .left)))
+returns-2 c = ap CollateralLine (c .collateral-in .ensures) ∙ sym (if-true _ _ _ (not-false _ (c .before .before .before .if1 .left)))
 
 pub collateral-line-spec : {M : Type 1} → statement M
-collateral-line-spec =
-    tie.close
-    (tie.spec
-    returns
-    array-read-t6
-    array-read-t9
-    array-read-t12
-    array-read-t15
-    array-read-t19
-    array-read-t22
-    array-read-t25
-    array-read-t28
-    array-read-t31
-    array-read-t34
-    array-read-t37
-    returns-2)
+collateral-line-spec = tie.close (tie.spec returns slice-aggregate-collateral-in collateral-in-requires returns-2)

@@ -1,9 +1,12 @@
--- `lines::line::guarantee_line` meets its contract: each field is read from its place. Assumes nothing.
-use mathlib.Core.Path.{sym}
+-- `lines::line::guarantee_line` meets its contract: what the fields say, if they could be read. Assumes nothing.
+use mathlib.Core.Path.{_≡_, sym, ap, _∙_}
+use native.Mathlib.Omega.{arith}
+use lib.ListN.{length}
 use borrow.Author.Tests.{not-true, not-false}
 use Rattle.base.proofs.Choice.{if-true, if-false}
 use Rattle.base.proofs.Tests.{tests}
 use Rattle.lines.specs.Lines.{guaranteeLine, ifHeld}
+use Rattle.lines.specs.declared.line.Line.the-variants.{GuaranteeLine}
 use Rattle.lines.proofs.line.guarantee_line.Statement.{statement}
 use Rattle.lines.proofs.line.guarantee_line.Tie as tie
 
@@ -11,49 +14,17 @@ returns : tie.Need-returns
 unfolding ifHeld
 returns c = sym (if-false _ _ _ (not-true _ (c .if1 .taken)))
 
-array-read-t6 : tie.Need-array-read-t6
-array-read-t6 c = search tests
+slice-aggregate-guarantee-in : tie.Need-slice-aggregate-guarantee-in
+slice-aggregate-guarantee-in c = search tests
 
-array-read-t9 : tie.Need-array-read-t9
-array-read-t9 c = search tests
-
-array-read-t12 : tie.Need-array-read-t12
-array-read-t12 c = search tests
-
-array-read-t16 : tie.Need-array-read-t16
-array-read-t16 c = search tests
-
-array-read-t19 : tie.Need-array-read-t19
-array-read-t19 c = search tests
-
-array-read-t22 : tie.Need-array-read-t22
-array-read-t22 c = search tests
-
-array-read-t25 : tie.Need-array-read-t25
-array-read-t25 c = search tests
-
-array-read-t28 : tie.Need-array-read-t28
-array-read-t28 c = search tests
-
-array-read-t31 : tie.Need-array-read-t31
-array-read-t31 c = search tests
+guarantee-in-requires : tie.Need-guarantee-in-requires
+guarantee-in-requires c κs =
+    let e : length (c .before .before .before .before .args .fields .values) ≡ 11 = search tests in
+    omega (arith, e)
 
 returns-2 : tie.Need-returns-2
 unfolding ifHeld guaranteeLine
-returns-2 c = sym (if-true _ _ _ (not-false _ (c .before .if1 .left)))
+returns-2 c = ap GuaranteeLine (c .guarantee-in .ensures) ∙ sym (if-true _ _ _ (not-false _ (c .before .before .before .if1 .left)))
 
 pub guarantee-line-spec : {M : Type 1} → statement M
-guarantee-line-spec =
-    tie.close
-    (tie.spec
-    returns
-    array-read-t6
-    array-read-t9
-    array-read-t12
-    array-read-t16
-    array-read-t19
-    array-read-t22
-    array-read-t25
-    array-read-t28
-    array-read-t31
-    returns-2)
+guarantee-line-spec = tie.close (tie.spec returns slice-aggregate-guarantee-in guarantee-in-requires returns-2)

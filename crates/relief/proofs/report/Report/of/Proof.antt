@@ -1,18 +1,14 @@
 -- `relief::report::Report::of` meets its contract. Assumes nothing.
 use mathlib.Core.Path.{_≡_, sym, ap, _∙_}
-use mathlib.Core.Bool.{true, _&&_}
+use mathlib.Core.Bool.{true}
 use mathlib.Core.List.{[]}
-use lib.Dec.{eqb}
-use borrow.Author.Tests.{eqb-true}
 use Rattle.base.proofs.Choice.{if-true, if-false}
-use Rattle.base.proofs.Every.{both}
 use Rattle.base.proofs.Tests.{not-true, not-false, told-not-true, told-not-false}
 use Rattle.base.specs.FirstMet.{firstOr}
 use Rattle.base.proofs.FirstMet.{met-first, not-met}
 use Rattle.deal.specs.Answers.{answerNumber}
-use Rattle.deal.specs.Terms.{termsRefusal}
-use Rattle.deal.specs.Items.{collateralListAllowed, guaranteeListAllowed}
 use Rattle.deal.specs.Deals.{accepted}
+use Rattle.deal.proofs.Deals.{accepted-parts}
 use Rattle.relief.specs.Report.{fullReport, reportRefusal, reportUnder}
 use Rattle.relief.proofs.report.Report.of.Statement.{statement}
 use Rattle.relief.proofs.report.Report.of.Tie as tie
@@ -34,13 +30,7 @@ is-accepted : (c : tie.Else1) → accepted (c .before .before .args .deal) ≡ t
 is-accepted c = told-not-true _ _ (c .before .accepted .ensures) (c .if1 .left)
 
 full-report-requires : tie.Need-full-report-requires
-unfolding accepted
-full-report-requires c κs =
-    let e = c .before .before .before in
-    let d = e .before .before .args .deal in
-    let outer = both (eqb (termsRefusal (d .terms)) 0 && collateralListAllowed (d .collateral)) (guaranteeListAllowed (d .guarantees)) (is-accepted e) in
-    let inner = both (eqb (termsRefusal (d .terms)) 0) (collateralListAllowed (d .collateral)) (outer .0) in
-    (eqb-true _ 0 (inner .0), (inner .1, outer .1))
+full-report-requires c κs = accepted-parts _ (is-accepted (c .before .before .before))
 
 returns-2 : tie.Need-returns-2
 unfolding reportUnder reportRefusal fullReport answerNumber firstOr

@@ -1,0 +1,50 @@
+-- `conformance::run::answered` meets its contract: the front of the buffer is the text that is printed for the book. Assumes nothing.
+use Prim.Native.Nat.{ℕ, _≤_}
+use mathlib.Core.Path.{_≡_, sym, _∙_}
+use mathlib.Core.List.{List, _++_}
+use lib.ListN.{length, take}
+use lib.Seq.{length-take-le, take-append-seam}
+use Rattle.base.proofs.Tests.{tests}
+use Rattle.response.proofs.Printed.{printed-inside}
+use Rattle.conformance.specs.Same.{sameBytes}
+use Rattle.conformance.proofs.run.answered.Statement.{statement}
+use Rattle.conformance.proofs.run.answered.Tie as tie
+
+slice-aggregate-respond : tie.Need-slice-aggregate-respond
+slice-aggregate-respond c = search tests
+
+slice-aggregate-respond-2 : tie.Need-slice-aggregate-respond-2
+slice-aggregate-respond-2 c = search tests
+
+respond-requires : tie.Need-respond-requires
+respond-requires c κs = search tests
+
+inside : (c : tie.After-respond) → c .respond .result ≤ length (c .respond .last .1 .1 .0)
+inside c = printed-inside _ _ _ _ (c .respond .ensures)
+
+array-share-prefix-out : tie.Need-array-share-prefix-out
+array-share-prefix-out c = inside (c .before .before)
+
+slice-aggregate-same : tie.Need-slice-aggregate-same
+slice-aggregate-same c = sym (length-take-le _ _ (inside (c .before .before .before)))
+
+same-requires : tie.Need-same-requires
+same-requires c κs = search tests
+
+front : (n : ℕ) (text rest after answer : List ℕ) → (n ≡ length text) × (after ≡ text ++ rest) → sameBytes (take n after) answer ≡ sameBytes text answer
+front n text rest after answer h = rw (h .0, h .1, take-append-seam)
+
+returns : tie.Need-returns
+returns c = c .same .ensures ∙ front _ _ _ _ _ (c .before .before .before .before .respond .ensures)
+
+pub answered-spec : {M : Type 1} → statement M
+answered-spec =
+    tie.close
+    (tie.spec
+    slice-aggregate-respond
+    slice-aggregate-respond-2
+    respond-requires
+    array-share-prefix-out
+    slice-aggregate-same
+    same-requires
+    returns)

@@ -1,0 +1,58 @@
+-- A deal's terms and its items from the numbers that are sent, in the order of 01: What a deal holds.
+use Prim.Native.Nat.{ℕ}
+use mathlib.Core.List.{List}
+use lib.ListN.{getD}
+use Rattle.deal.specs.Terms.{termsOf}
+use Rattle.deal.specs.declared.terms.Terms.{Terms}
+use Rattle.deal.specs.declared.collateral.Collateral.{Collateral}
+use Rattle.deal.specs.declared.guarantee.Guarantee.{Guarantee}
+
+-- how many there are of each
+abbrev pub termsWidth : ℕ
+termsWidth = 10
+
+abbrev pub collateralWidth : ℕ
+collateralWidth = 11
+
+abbrev pub guaranteeWidth : ℕ
+guaranteeWidth = 9
+
+-- "Deal: amount; counterparty class ..; step; currency; kind ..; revaluation interval ..; residual term; type, step and issue life of
+-- what is lent"
+unfoldable pub termsIn : List ℕ → Terms
+termsIn fields =
+    let field : ℕ → ℕ = λ k. getD fields k 0 in
+    termsOf (field 0) (field 1) (field 2) (field 3) (field 4) (field 5) (field 6) (field 7) (field 8) (field 9)
+
+-- "Collateral: amount; type; step; issue life; currency; residual term of the pledge; its original term; conditions: lawful, unrelated to
+-- the counterparty, not already in the rating used, listed senior bank paper"
+unfoldable pub collateralIn : List ℕ → Collateral
+collateralIn fields =
+    let field : ℕ → ℕ = λ k. getD fields k 0 in
+    record {
+      amount = field 0;
+      asset = record { goods = field 1; step = field 2; life = field 3 };
+      currency = field 4;
+      residual = field 5;
+      original = field 6;
+      lawful = field 7;
+      unrelated = field 8;
+      unreflected = field 9;
+      listed = field 10;
+    }
+
+-- "Guarantee: amount; provider class ..; step; currency; residual and original term; conditions: lawful, direct .., not already in the
+-- rating used"
+unfoldable pub guaranteeIn : List ℕ → Guarantee
+guaranteeIn fields =
+    let field : ℕ → ℕ = λ k. getD fields k 0 in
+    record {
+      amount = field 0;
+      provider = record { class = field 1; step = field 2 };
+      currency = field 3;
+      residual = field 4;
+      original = field 5;
+      lawful = field 6;
+      direct = field 7;
+      unreflected = field 8;
+    }

@@ -1,0 +1,79 @@
+// Terms and items from numbers in the order in which they are sent.
+ghost use mathlib.Core.Path.{_≡_};
+ghost use Prim.Native.Nat.{_≤_};
+ghost use lib.ListN.{length};
+ghost use Rattle.deal.specs.Fields.{collateralIn, collateralWidth, guaranteeIn, guaranteeWidth, termsIn, termsWidth};
+use crate::asset::Asset;
+use crate::collateral::Collateral;
+use crate::guarantee::Guarantee;
+use crate::party::Party;
+use crate::terms::Terms;
+
+// How many numbers there are of each.
+pub const TERMS_WIDTH: usize = 10;
+
+pub const COLLATERAL_WIDTH: usize = 11;
+
+pub const GUARANTEE_WIDTH: usize = 9;
+
+pub fn terms_in(fields: &[u64]) -> Terms
+    requires { ⌜ termsWidth ≤ length (now fields) ⌝ }
+    ensures { λ r. ⌜ r ≡ termsIn (now (fields .entry)) ⌝ }
+{
+    Terms {
+        amount: fields[0],
+        counterparty: Party {
+            class: fields[1],
+            step: fields[2],
+        },
+        currency: fields[3],
+        kind: fields[4],
+        interval: fields[5],
+        residual: fields[6],
+        lent: Asset {
+            goods: fields[7],
+            step: fields[8],
+            life: fields[9],
+        },
+    }
+}
+
+pub fn collateral_in(fields: &[u64]) -> Collateral
+    requires { ⌜ collateralWidth ≤ length (now fields) ⌝ }
+    ensures { λ r. ⌜ r ≡ collateralIn (now (fields .entry)) ⌝ }
+{
+    Collateral {
+        amount: fields[0],
+        asset: Asset {
+            goods: fields[1],
+            step: fields[2],
+            life: fields[3],
+        },
+        currency: fields[4],
+        residual: fields[5],
+        original: fields[6],
+        lawful: fields[7],
+        unrelated: fields[8],
+        unreflected: fields[9],
+        listed: fields[10],
+    }
+}
+
+pub fn guarantee_in(fields: &[u64]) -> Guarantee
+    requires { ⌜ guaranteeWidth ≤ length (now fields) ⌝ }
+    ensures { λ r. ⌜ r ≡ guaranteeIn (now (fields .entry)) ⌝ }
+{
+    Guarantee {
+        amount: fields[0],
+        provider: Party {
+            class: fields[1],
+            step: fields[2],
+        },
+        currency: fields[3],
+        residual: fields[4],
+        original: fields[5],
+        lawful: fields[6],
+        direct: fields[7],
+        unreflected: fields[8],
+    }
+}

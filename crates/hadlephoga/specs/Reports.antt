@@ -1,0 +1,48 @@
+-- Reporting a deal to callers in other languages, as numbers. 01: Reporting a deal
+use Prim.Native.Nat.{ℕ}
+use mathlib.Core.List.{List, [], _∷_, _++_}
+use lib.Dec.{eqb, ltb}
+use lib.ListN.{length}
+use Rattle.base.specs.Choice.{if_then_else_}
+use Rattle.deal.specs.Answers.{answerNumber}
+use Rattle.relief.specs.Outcomes.{outcomeGround, outcomeValue}
+use Rattle.relief.specs.Report.{refusedReport, reportOf}
+use Rattle.relief.specs.declared.collateral.CollateralReport.{CollateralReport}
+use Rattle.relief.specs.declared.guarantee.GuaranteeReport.{GuaranteeReport}
+use Rattle.relief.specs.declared.report.Report.{Report}
+use Rattle.book.specs.Book.{overwrite}
+use Rattle.hadlephoga.specs.Records.{dealIn, recordLength}
+
+-- for each of a list's elements its numbers, one behind the other
+unfoldable pub inOrder : {A : Type 0} → (A → List ℕ) → List A → List ℕ
+inOrder f [] = []
+inOrder f (x ∷ xs) = f x ++ inOrder f xs
+
+-- "for each item either its value or its ground": the value and the ground's number, one of which is 0
+abbrev pub collateralNumbers : CollateralReport → List ℕ
+collateralNumbers c = outcomeValue (c .outcome) ∷ outcomeGround (c .outcome) ∷ []
+
+-- "each guarantee's portion" besides
+abbrev pub guaranteeNumbers : GuaranteeReport → List ℕ
+guaranteeNumbers g = outcomeValue (g .outcome) ∷ outcomeGround (g .outcome) ∷ g .portion ∷ []
+
+-- E*; two numbers for each of sixteen places of collateral; three for each of sixteen of guarantees; the rest; the weighted amount
+abbrev pub reportLength : ℕ
+reportLength = 83
+
+unfoldable pub reportNumbers : Report → List ℕ
+reportNumbers r =
+    r .exposure ∷ (inOrder collateralNumbers (r .collateral) ++ inOrder guaranteeNumbers (r .guarantees) ++ r .rest ∷ r .weighted ∷ [])
+
+-- numbers that are no record get the reply of a record that is not accepted
+unfoldable pub reportIn : List ℕ → Report
+reportIn numbers = if eqb (length numbers) recordLength then reportOf (dealIn numbers) else refusedReport
+
+-- 13 where the lent list has fewer places than a report has numbers, otherwise what reporting answers
+unfoldable pub reportingRefusal : List ℕ → ℕ → ℕ
+reportingRefusal numbers places = if ltb places reportLength then 13 else answerNumber (reportIn numbers .answer)
+
+-- the lent list afterwards: the report's numbers from the front and nothing behind them; untouched with 13
+unfoldable pub listAfter : List ℕ → List ℕ → List ℕ
+listAfter numbers before =
+    if ltb (length before) reportLength then before else overwrite (reportNumbers (reportIn numbers)) before

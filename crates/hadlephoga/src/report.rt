@@ -1,0 +1,85 @@
+// A report's numbers, put into a lent list.
+ghost use Prim.Native.Nat.{_+_, _≤_};
+ghost use mathlib.Core.List.{_∷_, []};
+ghost use mathlib.Core.Path.{_≡_};
+ghost use lib.ListN.{length};
+ghost use Rattle.book.specs.Book.{overwrite};
+ghost use Rattle.result.specs.Placed.{Placed};
+ghost use Rattle.relief.specs.Outcomes.{outcomeGround, outcomeValue};
+ghost use Rattle.hadlephoga.specs.Reports.{collateralNumbers, guaranteeNumbers, inOrder, reportLength, reportNumbers};
+use relief::collateral::CollateralReport;
+use relief::guarantee::GuaranteeReport;
+use relief::outcome::Outcome;
+use relief::report::Report;
+
+pub const REPORT_LENGTH: usize = 83;
+
+fn put_number(list: &mut [u64], at: usize, number: u64) -> usize
+    requires { ⌜ at + 1 ≤ length (now list) ⌝ }
+    ensures { λ r. ⌜ Placed at (number ∷ []) (now (list .entry)) (now (list .exit)) r ⌝ }
+{
+    list[at] = number;
+    at + 1
+}
+
+// The value and the ground's number.
+fn put_outcome(list: &mut [u64], at: usize, outcome: Outcome) -> usize
+    requires { ⌜ at + 2 ≤ length (now list) ⌝ }
+    ensures { λ r. ⌜ Placed at (outcomeValue outcome ∷ outcomeGround outcome ∷ []) (now (list .entry)) (now (list .exit)) r ⌝ }
+{
+    let next = put_number(list, at, outcome.value());
+    put_number(list, next, outcome.ground_number())
+}
+
+fn put_collateral(list: &mut [u64], at: usize, reports: [CollateralReport; 16]) -> usize
+    requires { ⌜ at + 32 ≤ length (now list) ⌝ }
+    ensures { λ r. ⌜ Placed at (inOrder collateralNumbers reports) (now (list .entry)) (now (list .exit)) r ⌝ }
+{
+    let mut place = at;
+    let mut i: usize = 0;
+    while i < 16 {
+        let report = reports[i];
+        let outcome = report.outcome;
+        place = put_outcome(list, place, outcome);
+        i += 1;
+    }
+    place
+}
+
+// The outcome and the portion.
+fn put_guarantee(list: &mut [u64], at: usize, report: GuaranteeReport) -> usize
+    requires { ⌜ at + 3 ≤ length (now list) ⌝ }
+    ensures { λ r. ⌜ Placed at (guaranteeNumbers report) (now (list .entry)) (now (list .exit)) r ⌝ }
+{
+    let outcome = report.outcome;
+    let next = put_outcome(list, at, outcome);
+    put_number(list, next, report.portion)
+}
+
+fn put_guarantees(list: &mut [u64], at: usize, reports: [GuaranteeReport; 16]) -> usize
+    requires { ⌜ at + 48 ≤ length (now list) ⌝ }
+    ensures { λ r. ⌜ Placed at (inOrder guaranteeNumbers reports) (now (list .entry)) (now (list .exit)) r ⌝ }
+{
+    let mut place = at;
+    let mut i: usize = 0;
+    while i < 16 {
+        let report = reports[i];
+        place = put_guarantee(list, place, report);
+        i += 1;
+    }
+    place
+}
+
+// From the front of the list.
+pub fn put_report(list: &mut [u64], report: Report)
+    requires { ⌜ reportLength ≤ length (now list) ⌝ }
+    ensures { λ _. ⌜ now (list .exit) ≡ overwrite (reportNumbers report) (now (list .entry)) ⌝ }
+{
+    let next = put_number(list, 0, report.exposure);
+    let pledged = report.collateral;
+    let next = put_collateral(list, next, pledged);
+    let guaranteed = report.guarantees;
+    let next = put_guarantees(list, next, guaranteed);
+    let next = put_number(list, next, report.rest);
+    put_number(list, next, report.weighted);
+}

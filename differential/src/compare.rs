@@ -1,0 +1,319 @@
+//! One book or one record through both implementations, every number compared.
+
+use std::fmt::Debug;
+
+use hadlephoga::{BookReply, Record, Report, RECORD_LENGTH, REPORT_LENGTH};
+use reference::DealRead;
+
+use crate::line::{count_deals, lines, opens_deal, HEADER};
+use crate::random::Random;
+use crate::records::{fill_past_counts, without_garbage};
+use crate::sides::{from_reference, reference_report, Side};
+use crate::tally::Tally;
+
+/// Where the two disagree.
+pub struct Difference {
+    pub about: String,
+    /// The deal's serial and lines, or the record's numbers.
+    pub deal: String,
+    pub proved: String,
+    pub reference: String,
+}
+
+fn differ(about: &str, deal: String, proved: impl Debug, reference: impl Debug) -> Difference {
+    Difference {
+        about: about.to_string(),
+        deal,
+        proved: format!("{proved:?}"),
+        reference: format!("{reference:?}"),
+    }
+}
+
+/// A list to be lent, between two margins; each of its numbers is a mark that
+/// no answer gives.
+struct Lent {
+    numbers: Vec<u64>,
+}
+
+const MARGIN: usize = 8;
+
+impl Lent {
+    fn new(length: usize) -> Self {
+        let numbers = (0..length + 2 * MARGIN).map(|place| !(place as u64 * 0x0101_0101));
+        Lent {
+            numbers: numbers.collect(),
+        }
+    }
+
+    fn list(&mut self) -> &mut [u64] {
+        let end = self.numbers.len() - MARGIN;
+        &mut self.numbers[MARGIN..end]
+    }
+}
+
+/// Answers a book into lists of several lengths and reports each of its deals.
+pub fn book(random: &mut Random, book: &[u8], tally: &mut Tally) -> Result<(), Difference> {
+    let deals = count_deals(book);
+    let exact = deals * 4;
+    let (reply, results) = answers(book, exact, tally)?;
+    let others = [
+        exact.saturating_sub(1),
+        exact + random.index(10),
+        random.index(exact + 10),
+        exact.saturating_sub(4),
+        0,
+    ];
+    answers(book, others[0], tally)?;
+    answers(book, random.pick(&others[1..]), tally)?;
+    if book.starts_with(HEADER) {
+        tally.size(book.len(), deals);
+    }
+    if reply.refusal == 0 {
+        tally.answered_book(book, &results);
+    }
+    reports(random, book, reply, &results, tally)
+}
+
+/// Both answers with a list of this length; the whole list is compared.
+fn answers(
+    book: &[u8],
+    length: usize,
+    tally: &mut Tally,
+) -> Result<(BookReply, Vec<u64>), Difference> {
+    let (mut proved, mut reference) = (Lent::new(length), Lent::new(length));
+    let proved_reply = Side::Proved.answer_book(book, proved.list());
+    let reference_reply = Side::Reference.answer_book(book, reference.list());
+    let about = format!("answering with a list of {length}");
+    if proved_reply != reference_reply {
+        let none = String::from("the whole book");
+        return Err(differ(&about, none, proved_reply, reference_reply));
+    }
+    if proved.numbers != reference.numbers {
+        let mut places = proved.numbers.iter().zip(&reference.numbers);
+        let place = places.position(|(one, other)| one != other).unwrap_or(0);
+        let first = place.saturating_sub(MARGIN) / 4 * 4 + MARGIN;
+        let four = first..(first + 4).min(proved.numbers.len());
+        return Err(differ(
+            &about,
+            lines_of(book, (first - MARGIN) / 4),
+            &proved.numbers[four.clone()],
+            &reference.numbers[four],
+        ));
+    }
+    if proved_reply.refusal != 0 {
+        tally.refused_books.meet(&[proved_reply.refusal]);
+    }
+    tally.numbers += 2 + length as u64;
+    Ok((proved_reply, proved.list().to_vec()))
+}
+
+/// The serial and lines of the deal in this place of a book.
+fn lines_of(book: &[u8], place: usize) -> String {
+    let mut text = format!("deal {}:\n", place + 1);
+    let mut deals = 0;
+    for (number, line) in lines(book).enumerate().skip(1) {
+        deals += usize::from(opens_deal(line));
+        if deals == place + 1 {
+            text += &format!("  line {}: {}\n", number + 1, line.escape_ascii());
+        }
+    }
+    text
+}
+
+/// Every deal of a book as the second implementation reads it: its answer is
+/// its first refused line, or the figures of its whole report.
+fn reports(
+    random: &mut Random,
+    book: &[u8],
+    reply: BookReply,
+    results: &[u64],
+    tally: &mut Tally,
+) -> Result<(), Difference> {
+    let deals = match reference::deals(book) {
+        Err(refusal) if refusal == reply.refusal => return Ok(()),
+        Ok(deals) if reply.refusal == 0 && deals.len() as u64 == reply.deals => deals,
+        other => {
+            let read = other.map(|deals| deals.len());
+            return Err(differ("reading", "the whole book".into(), reply, read));
+        }
+    };
+    for (place, (read, answer)) in deals.iter().zip(results.chunks_exact(4)).enumerate() {
+        let serial = place as u64 + 1;
+        let expected = match read {
+            DealRead::Refused { refusal, line } => [serial, *refusal, *line, 0],
+            DealRead::Accepted(record) => {
+                let mut record = from_reference(record);
+                let in_book = |mut difference: Difference| {
+                    difference.deal = lines_of(book, place) + &difference.deal;
+                    difference
+                };
+                let numbers = record.to_numbers();
+                let (_, report) = report(random, &numbers, tally).map_err(in_book)?;
+                if random.percent(20) {
+                    fill_past_counts(random, &mut record);
+                    garbage(&record, &report, tally).map_err(in_book)?;
+                }
+                let report = Report::from_numbers(&report);
+                tally.report(&record, &report);
+                [serial, 0, report.exposure, report.weighted_amount]
+            }
+        };
+        if answer != expected {
+            let about = "a deal's answer and its report or refused line";
+            return Err(differ(about, lines_of(book, place), answer, expected));
+        }
+    }
+    Ok(())
+}
+
+/// A record of any numbers.
+pub fn record(
+    random: &mut Random,
+    numbers: &[u64; RECORD_LENGTH],
+    tally: &mut Tally,
+) -> Result<(), Difference> {
+    tally.records += 1;
+    let (refusal, report) = report(random, numbers, tally)?;
+    let record = Record::from_numbers(numbers);
+    garbage(&without_garbage(record.clone()), &report, tally)?;
+    match refusal {
+        0 => {
+            tally.accepted_records += 1;
+            tally.report(&record, &Report::from_numbers(&report));
+        }
+        refusal => tally.refused_records.meet(&[refusal]),
+    }
+    if random.percent(10) {
+        lengths(random, numbers, tally)?;
+    }
+    Ok(())
+}
+
+/// Both reports of a record, into a list that may be longer than a report.
+fn report(
+    random: &mut Random,
+    record: &[u64; RECORD_LENGTH],
+    tally: &mut Tally,
+) -> Result<(u64, [u64; REPORT_LENGTH]), Difference> {
+    let longer = match random.percent(75) {
+        true => 0,
+        false => random.index(20),
+    };
+    let (mut proved, mut reference) = (
+        Lent::new(REPORT_LENGTH + longer),
+        Lent::new(REPORT_LENGTH + longer),
+    );
+    let proved_refusal = hadlephoga::report_numbers(record, proved.list());
+    let (reference_refusal, report) = reference_report(record);
+    reference.list()[..REPORT_LENGTH].copy_from_slice(&report);
+    tally.numbers += 1 + (REPORT_LENGTH + longer) as u64;
+    if proved_refusal != reference_refusal || proved.numbers != reference.numbers {
+        let mut places = proved.list().iter().zip(reference.list());
+        let place = places.position(|(one, other)| one != other);
+        return Err(differ(
+            &format!(
+                "a report, first in {}",
+                place.map_or("its refusal".into(), named)
+            ),
+            format!("record {record:?}"),
+            (proved_refusal, proved.list()),
+            (reference_refusal, reference.list()),
+        ));
+    }
+    Ok((proved_refusal, report))
+}
+
+/// What stands in this place of a report.
+fn named(place: usize) -> String {
+    match place {
+        0 => "E*".into(),
+        1..=32 => {
+            let part = ["value", "ground"][(place - 1) % 2];
+            format!("the {part} of collateral {}", (place - 1) / 2 + 1)
+        }
+        33..=80 => {
+            let part = ["value", "ground", "portion"][(place - 33) % 3];
+            format!("the {part} of guarantee {}", (place - 33) / 3 + 1)
+        }
+        81 => "the rest".into(),
+        82 => "the weighted amount".into(),
+        _ => format!("place {place}, behind the report"),
+    }
+}
+
+/// A record that differs past its counts alone has the same report.
+fn garbage(
+    record: &Record,
+    report: &[u64; REPORT_LENGTH],
+    tally: &mut Tally,
+) -> Result<(), Difference> {
+    let numbers = record.to_numbers();
+    let mut proved = [0; REPORT_LENGTH];
+    hadlephoga::report_numbers(&numbers, &mut proved);
+    let (_, reference) = reference_report(&numbers);
+    tally.numbers += REPORT_LENGTH as u64;
+    if proved != *report || reference != *report {
+        return Err(differ(
+            &format!("places past the counts change the report {report:?}"),
+            format!("record {numbers:?}"),
+            proved,
+            reference,
+        ));
+    }
+    Ok(())
+}
+
+/// Lists of other lengths: 13 and nothing written where the report's is too
+/// short, then 40 and zeros where the record's is not 332.
+fn lengths(
+    random: &mut Random,
+    record: &[u64; RECORD_LENGTH],
+    tally: &mut Tally,
+) -> Result<(), Difference> {
+    let mut record = record.to_vec();
+    let length = random.pick(&[0, 1, 10, 331, 332, 333, 334, 400]);
+    record.resize(length, 1);
+    let room = random.pick(&[0, 1, 82, 83, 84, 90]);
+    if length == RECORD_LENGTH && room >= REPORT_LENGTH {
+        return Ok(());
+    }
+    let (mut proved, mut expected) = (Lent::new(room), Lent::new(room));
+    let refusal = hadlephoga::report_numbers(&record, proved.list());
+    let due = match room < REPORT_LENGTH {
+        true => 13,
+        false => {
+            expected.list()[..REPORT_LENGTH].fill(0);
+            40
+        }
+    };
+    tally.numbers += 1 + room as u64;
+    if refusal != due || proved.numbers != expected.numbers {
+        return Err(differ(
+            "lists of other lengths (beside what is due)",
+            format!("record of {length} numbers, report of {room}"),
+            (refusal, proved.list()),
+            (due, expected.list()),
+        ));
+    }
+    tally.refused_records.meet(&[refusal]);
+    Ok(())
+}
+
+#[cfg(test)]
+mod tests {
+    use super::*;
+
+    #[test]
+    fn places_of_a_report() {
+        assert_eq!(named(32), "the ground of collateral 16");
+        assert_eq!(named(33), "the value of guarantee 1");
+        assert_eq!(named(80), "the portion of guarantee 16");
+        assert_eq!(named(83), "place 83, behind the report");
+    }
+
+    #[test]
+    fn lines_of_a_deal() {
+        let text = lines_of(b"CRM\t1\nD\t1\nC\nD\t2\n", 0);
+        assert_eq!(text, "deal 1:\n  line 2: D\\t1\\n\n  line 3: C\\n\n");
+    }
+}

@@ -1,0 +1,52 @@
+//! Accepted deals, as lines of a book.
+
+use crate::line::Line;
+use crate::random::Random;
+use crate::values;
+
+/// An accepted deal with lists of random lengths.
+pub fn deal(random: &mut Random) -> Vec<Line> {
+    let (collateral, guarantees) = (values::list_length(random), values::list_length(random));
+    deal_with(random, collateral, guarantees)
+}
+
+/// An accepted deal but for the lengths of its lists; collateral and
+/// guarantees stand in any order.
+pub fn deal_with(random: &mut Random, mut collateral: u64, mut guarantees: u64) -> Vec<Line> {
+    let terms = values::terms(random);
+    let of = (collateral, guarantees);
+    let mut lines = vec![Line::new(b'D', &terms.to_numbers())];
+    while collateral + guarantees > 0 {
+        if random.below(collateral + guarantees) < collateral {
+            collateral -= 1;
+            let item = values::collateral(random, &terms, of.0);
+            lines.push(Line::new(b'C', &item.to_numbers()));
+        } else {
+            guarantees -= 1;
+            let item = values::guarantee(random, &terms, of.1);
+            lines.push(Line::new(b'G', &item.to_numbers()));
+        }
+    }
+    lines
+}
+
+#[cfg(test)]
+mod tests {
+    use super::*;
+    use crate::line::HEADER;
+
+    #[test]
+    fn every_deal_is_accepted() {
+        for number in 0..2000 {
+            let mut book = HEADER.to_vec();
+            book.extend(
+                deal(&mut Random::new(7, number))
+                    .iter()
+                    .flat_map(Line::text),
+            );
+            let mut results = [0; 4];
+            assert_eq!(hadlephoga::answer_book(&book, &mut results), Ok(1));
+            assert_eq!(results[1], 0, "{}", book.escape_ascii());
+        }
+    }
+}

@@ -1,0 +1,55 @@
+//! Compares the proved library with the second implementation on random books
+//! and records and on the conformance books, and measures both.
+
+mod arguments;
+mod bench;
+mod books;
+mod cells;
+mod compare;
+mod conformance;
+mod damage;
+mod deal;
+mod line;
+mod malformed;
+mod measured;
+mod outside;
+mod random;
+mod records;
+mod run;
+mod shapes;
+mod sides;
+mod table;
+mod tally;
+mod values;
+
+use std::process::ExitCode;
+
+use arguments::{Command, USAGE};
+
+fn main() -> ExitCode {
+    let arguments: Vec<String> = std::env::args().skip(1).collect();
+    let Some(command) = arguments::command(&arguments) else {
+        eprintln!("{USAGE}");
+        return ExitCode::from(2);
+    };
+    let fine = match command {
+        Command::Run(options) => run::run(&options),
+        Command::OneBook { seed, book } => run::one_book(seed, book),
+        Command::Conformance(folder) => told(conformance::run(&folder)),
+        Command::Bench { rounds } => told(bench::run(rounds)),
+        Command::Books(folder) => told(shapes::write(&folder)),
+        Command::Once { side, book, calls } => told(measured::once(side, &book, calls)),
+    };
+    match fine {
+        true => ExitCode::SUCCESS,
+        false => ExitCode::FAILURE,
+    }
+}
+
+/// Says what went wrong, if anything did.
+fn told(result: Result<(), String>) -> bool {
+    if let Err(words) = &result {
+        eprintln!("{words}");
+    }
+    result.is_ok()
+}

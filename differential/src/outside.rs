@@ -1,0 +1,79 @@
+//! Values outside the range of a field, most of them just outside.
+
+use crate::line::Line;
+use crate::random::Random;
+use crate::values::{AMOUNT_LIMIT, DAYS_LIMIT};
+
+/// What a field holds, as far as its range goes.
+#[derive(Clone, Copy)]
+enum Sort {
+    Amount,
+    Class,
+    Step,
+    Currency,
+    Kind,
+    Interval,
+    Term,
+    Type,
+    Life,
+    Condition,
+}
+
+use Sort::*;
+
+const DEAL: &[Sort] = &[
+    Amount, Class, Step, Currency, Kind, Interval, Term, Type, Step, Life,
+];
+const COLLATERAL: &[Sort] = &[
+    Amount, Type, Step, Life, Currency, Term, Term, Condition, Condition, Condition, Condition,
+];
+const GUARANTEE: &[Sort] = &[
+    Amount, Class, Step, Currency, Term, Term, Condition, Condition, Condition,
+];
+
+/// Some of these are outside for some classes and types only: class 4 for
+/// providers, a step of 1 and a life of 1 where 0 is due, a life of 0 elsewhere.
+fn beside(sort: Sort) -> &'static [u64] {
+    match sort {
+        Amount => &[AMOUNT_LIMIT + 1, 9_999_999_999_999],
+        Class => &[0, 4, 5, 6],
+        Step => &[1, 6, 7, 8],
+        Currency => &[0, 1000, 1001],
+        Kind => &[0, 4],
+        Interval => &[0, 251],
+        Term => &[0, DAYS_LIMIT + 1],
+        Type => &[0, 1, 2, 10, 11],
+        Life => &[0, 1, DAYS_LIMIT, DAYS_LIMIT + 1],
+        Condition => &[2, 3, 10],
+    }
+}
+
+/// What a narrower width would cut off; each sum still has 13 digits at most.
+const WIDTHS: &[u64] = &[1 << 8, 1 << 16, 1 << 32, 1 << 40];
+
+/// Puts a field of a line outside its range; now and then more than one, so
+/// that the order of refusals counts.
+pub fn put_outside(random: &mut Random, line: &mut Line) {
+    for _ in 0..random.weighted(&[(6, 1), (2, 2), (1, 3), (1, 5)]) {
+        put_one_outside(random, line);
+    }
+}
+
+fn put_one_outside(random: &mut Random, line: &mut Line) {
+    let (sorts, residual) = match line.letter {
+        b'D' => (DEAL, None),
+        b'C' => (COLLATERAL, Some(5)),
+        _ => (GUARANTEE, Some(4)),
+    };
+    if let Some(residual) = residual.filter(|_| random.percent(15)) {
+        // A residual term above the original one that follows it.
+        line.fields[residual] = line.fields[residual + 1] + random.between(1, 2);
+        return;
+    }
+    let place = random.index(sorts.len());
+    let field = &mut line.fields[place];
+    *field = match random.percent(75) {
+        true => random.pick(beside(sorts[place])),
+        false => (*field + random.pick(WIDTHS)).min(9_999_999_999_999),
+    };
+}

@@ -1,0 +1,191 @@
+//! Random records as no book gives them: any numbers in any place.
+
+use hadlephoga::{Collateral, Guarantee, Record, ITEMS, RECORD_LENGTH};
+
+use crate::line::Line;
+use crate::outside::put_outside;
+use crate::random::Random;
+use crate::values;
+
+const EDGES: &[u64] = &[
+    0,
+    1,
+    2,
+    3,
+    4,
+    5,
+    6,
+    7,
+    9,
+    10,
+    16,
+    17,
+    90,
+    91,
+    250,
+    251,
+    360,
+    361,
+    999,
+    1000,
+    1800,
+    36_000,
+    36_001,
+    values::AMOUNT_LIMIT,
+    values::AMOUNT_LIMIT + 1,
+    1 << 32,
+    1 << 63,
+    u64::MAX - 1,
+    u64::MAX,
+];
+const COUNTS: &[u64] = &[
+    16,
+    17,
+    18,
+    19,
+    20,
+    255,
+    256,
+    257,
+    1 << 16,
+    1 << 32,
+    (1 << 32) + 1,
+    1 << 63,
+    u64::MAX - 15,
+    u64::MAX,
+];
+
+pub fn record(random: &mut Random) -> [u64; RECORD_LENGTH] {
+    match random.below(20) {
+        0..=8 => accepted(random).to_numbers(),
+        9..=13 => outside(random).to_numbers(),
+        14..=16 => counts(random).to_numbers(),
+        17 => {
+            let mut numbers = accepted(random).to_numbers();
+            numbers[random.index(RECORD_LENGTH)] = random.pick(EDGES);
+            numbers
+        }
+        18 => std::array::from_fn(|_| random.pick(EDGES)),
+        _ => match random.below(4) {
+            0 => [0; RECORD_LENGTH],
+            1 => [1; RECORD_LENGTH],
+            2 => [u64::MAX; RECORD_LENGTH],
+            _ => std::array::from_fn(|_| random.number()),
+        },
+    }
+}
+
+/// An accepted deal, with garbage in the places past its counts.
+fn accepted(random: &mut Random) -> Record {
+    let terms = values::terms(random);
+    let (collateral, guarantees) = (values::list_length(random), values::list_length(random));
+    let mut record = Record::new(
+        terms,
+        &Vec::from_iter((0..collateral).map(|_| values::collateral(random, &terms, collateral))),
+        &Vec::from_iter((0..guarantees).map(|_| values::guarantee(random, &terms, guarantees))),
+    );
+    fill_past_counts(random, &mut record);
+    record
+}
+
+/// Puts garbage into every place past a count, or zeros, or items that could
+/// be counted.
+pub fn fill_past_counts(random: &mut Random, record: &mut Record) {
+    let terms = record.terms;
+    let sort = random.below(4);
+    let number = |random: &mut Random| match sort {
+        0 => u64::MAX,
+        1 => random.pick(EDGES),
+        _ => random.number(),
+    };
+    for place in past(record.collateral_count) {
+        record.collateral[place] = match sort {
+            3 => values::collateral(random, &terms, 1),
+            _ => Collateral::from_numbers(&std::array::from_fn(|_| number(random))),
+        };
+    }
+    for place in past(record.guarantee_count) {
+        record.guarantees[place] = match sort {
+            3 => values::guarantee(random, &terms, 1),
+            _ => Guarantee::from_numbers(&std::array::from_fn(|_| number(random))),
+        };
+    }
+}
+
+/// The record with zeros in the places past its counts.
+pub fn without_garbage(mut record: Record) -> Record {
+    record.collateral[past(record.collateral_count)].fill(Collateral::default());
+    record.guarantees[past(record.guarantee_count)].fill(Guarantee::default());
+    record
+}
+
+fn past(count: u64) -> std::ops::Range<usize> {
+    count.min(ITEMS as u64) as usize..ITEMS
+}
+
+/// A field of the deal or of a counted item outside its range.
+fn outside(random: &mut Random) -> Record {
+    let mut record = accepted(random);
+    let counted = [record.collateral_count, record.guarantee_count].map(|count| count as usize);
+    match random.below(3) {
+        1 if counted[0] > 0 => {
+            let item = &mut record.collateral[random.index(counted[0])];
+            let fields = changed(random, b'C', &item.to_numbers());
+            *item = Collateral::from_numbers(&fields);
+        }
+        2 if counted[1] > 0 => {
+            let item = &mut record.guarantees[random.index(counted[1])];
+            let fields = changed(random, b'G', &item.to_numbers());
+            *item = Guarantee::from_numbers(&fields);
+        }
+        _ => {
+            let fields = changed(random, b'D', &record.terms.to_numbers());
+            record.terms = hadlephoga::Terms::from_numbers(&fields);
+        }
+    }
+    record
+}
+
+fn changed<const LENGTH: usize>(
+    random: &mut Random,
+    letter: u8,
+    fields: &[u64; LENGTH],
+) -> [u64; LENGTH] {
+    let mut line = Line::new(letter, fields);
+    match random.percent(30) {
+        true => line.fields[random.index(LENGTH)] = random.pick(EDGES),
+        false => put_outside(random, &mut line),
+    }
+    std::array::from_fn(|place| line.fields[place])
+}
+
+/// Counts that need not agree with the lists, whose places are all filled.
+fn counts(random: &mut Random) -> Record {
+    let mut record = accepted(random);
+    let terms = record.terms;
+    record.collateral = std::array::from_fn(|_| values::collateral(random, &terms, 4));
+    record.guarantees = std::array::from_fn(|_| values::guarantee(random, &terms, 4));
+    let mut count = || match random.percent(40) {
+        true => random.pick(COUNTS),
+        false => random.below(21),
+    };
+    record.collateral_count = count();
+    record.guarantee_count = count();
+    record
+}
+
+#[cfg(test)]
+mod tests {
+    use super::*;
+
+    #[test]
+    fn many_are_accepted_and_many_are_not() {
+        let refused = (0..1000)
+            .filter(|number| {
+                let record = record(&mut Random::new(2, *number));
+                hadlephoga::report(&Record::from_numbers(&record)).is_err()
+            })
+            .count();
+        assert!((300..700).contains(&refused), "{refused}");
+    }
+}

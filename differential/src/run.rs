@@ -1,0 +1,115 @@
+//! Many random books and records through both implementations.
+
+use std::path::PathBuf;
+use std::time::{Duration, Instant};
+
+use crate::arguments::Run;
+use crate::books::{self, Book};
+use crate::compare::{self, Difference};
+use crate::random::Random;
+use crate::records;
+use crate::sides::SIDES;
+use crate::table;
+use crate::tally::Tally;
+
+/// Runs until the deals or the seconds are used up; whether all agreed and, if
+/// it was asked for, everything was met.
+pub fn run(options: &Run) -> bool {
+    let start = Instant::now();
+    let mut tally = Tally::new();
+    let deals = options.deals.unwrap_or(u64::MAX);
+    let time = options.seconds.map_or(Duration::MAX, Duration::from_secs);
+    let mut number = 0;
+    while tally.deals < deals && start.elapsed() < time {
+        let book = books::book(options.seed, number);
+        if let Err(difference) = trial(options.seed, number, &book, &mut tally) {
+            report_difference(options.seed, number, &book, &difference);
+            return false;
+        }
+        number += 1;
+    }
+    let seconds = start.elapsed().as_secs_f64();
+    println!("seed {}, books 0 to {}", options.seed, number.max(1) - 1);
+    table::print(&tally);
+    println!();
+    println!(
+        "no difference; {seconds:.1} s, {:.0} deals per second",
+        tally.deals as f64 / seconds
+    );
+    complete(&tally, options.require_all)
+}
+
+/// One book, then records; all of it from the seed and the book's number.
+fn trial(seed: u64, number: u64, book: &Book, tally: &mut Tally) -> Result<(), Difference> {
+    tally.books += 1;
+    *tally.books_by_kind.entry(book.kind.name()).or_default() += 1;
+    let random = &mut Random::new(!seed, number);
+    compare::book(random, &book.bytes, tally)?;
+    for _ in 0..random.below(4) {
+        let record = records::record(random);
+        compare::record(random, &record, tally)?;
+    }
+    Ok(())
+}
+
+fn complete(tally: &Tally, require_all: bool) -> bool {
+    let mut complete = true;
+    for cells in tally.families() {
+        for cell in cells.unlisted() {
+            println!("{}: {cell:?} is no case of document 01", cells.title);
+            complete = false;
+        }
+        for cell in cells.never_met().take(10).filter(|_| require_all) {
+            println!("{}: {cell:?} was never met", cells.title);
+            complete = false;
+        }
+    }
+    complete
+}
+
+/// Compares one book again: its bytes on standard output, all else on standard
+/// error.
+pub fn one_book(seed: u64, number: u64) -> bool {
+    use std::io::Write;
+
+    let book = books::book(seed, number);
+    let written = std::io::stdout().write_all(&book.bytes);
+    let length = book.bytes.len();
+    eprintln!(
+        "seed {seed}, book {number}: {}, {length} bytes",
+        book.kind.name()
+    );
+    for side in SIDES {
+        let mut results = vec![0; crate::line::count_deals(&book.bytes) * 4];
+        let reply = side.answer_book(&book.bytes, &mut results);
+        eprintln!("{}: {reply:?}", side.name());
+        for answer in results.chunks_exact(4).take(reply.deals as usize) {
+            eprintln!("  {answer:?}");
+        }
+    }
+    match trial(seed, number, &book, &mut Tally::new()) {
+        Ok(()) => eprintln!("no difference, records of this number among them"),
+        Err(difference) => {
+            report_difference(seed, number, &book, &difference);
+            return false;
+        }
+    }
+    written.is_ok()
+}
+
+fn report_difference(seed: u64, number: u64, book: &Book, difference: &Difference) {
+    eprintln!("DIFFERENCE in {}", difference.about);
+    eprintln!("seed {seed}, book {number} ({})", book.kind.name());
+    eprintln!("{}", difference.deal);
+    eprintln!("proved:    {}", difference.proved);
+    eprintln!("reference: {}", difference.reference);
+    eprintln!("again: differential --seed {seed} --book {number}");
+    let target = PathBuf::from(concat!(env!("CARGO_MANIFEST_DIR"), "/../target"));
+    let file = target.join("differential-failure.book");
+    let written =
+        std::fs::create_dir_all(&target).and_then(|()| std::fs::write(&file, &book.bytes));
+    match written {
+        Ok(()) => eprintln!("the book is in target/differential-failure.book"),
+        Err(error) => eprintln!("the book could not be written: {error}"),
+    }
+}

@@ -1,0 +1,161 @@
+//! Both implementations behind the same calls on the same numbers.
+
+use hadlephoga::{BookReply, Record, RECORD_LENGTH, REPORT_LENGTH};
+use reference::Outcome;
+
+#[derive(Clone, Copy, Debug, PartialEq, Eq)]
+pub enum Side {
+    Proved,
+    Reference,
+}
+
+pub const SIDES: [Side; 2] = [Side::Proved, Side::Reference];
+
+impl Side {
+    pub fn name(self) -> &'static str {
+        match self {
+            Side::Proved => "proved",
+            Side::Reference => "reference",
+        }
+    }
+
+    pub fn answer_book(self, book: &[u8], results: &mut [u64]) -> BookReply {
+        match self {
+            Side::Proved => hadlephoga::answer_book_numbers(book, results),
+            Side::Reference => {
+                let reference::BookReply { refusal, deals } = reference::answer_book(book, results);
+                let deals = deals as u64;
+                BookReply { refusal, deals }
+            }
+        }
+    }
+}
+
+/// The refusal or 0, and the report, of the second implementation.
+pub fn reference_report(record: &[u64; RECORD_LENGTH]) -> (u64, [u64; REPORT_LENGTH]) {
+    let report = reference::report(&to_reference(&Record::from_numbers(record)));
+    let collateral = report.collateral.into_iter().flat_map(pair);
+    let guarantees = report
+        .guarantees
+        .into_iter()
+        .flat_map(|(outcome, portion)| {
+            let [value, ground] = pair(outcome);
+            [value, ground, portion]
+        });
+    let values = ([report.exposure].into_iter())
+        .chain(collateral)
+        .chain(guarantees)
+        .chain([report.rest, report.weighted]);
+    let mut numbers = [0; REPORT_LENGTH];
+    for (number, value) in numbers.iter_mut().zip(values) {
+        *number = value;
+    }
+    (report.refusal, numbers)
+}
+
+fn pair(outcome: Outcome) -> [u64; 2] {
+    match outcome {
+        Outcome::Valued(value) => [value, 0],
+        Outcome::LeftOut(ground) => [0, ground.into()],
+    }
+}
+
+fn to_reference(record: &Record) -> reference::Record {
+    let terms = record.terms;
+    reference::Record {
+        terms: reference::Terms {
+            amount: terms.amount,
+            class: terms.class,
+            step: terms.step,
+            currency: terms.currency,
+            kind: terms.kind,
+            interval: terms.interval,
+            residual: terms.residual_term,
+            lent_goods: terms.lent_type,
+            lent_step: terms.lent_step,
+            lent_life: terms.lent_issue_life,
+        },
+        collateral_count: record.collateral_count,
+        collateral: record.collateral.map(|item| reference::Collateral {
+            amount: item.amount,
+            goods: item.goods,
+            step: item.step,
+            life: item.issue_life,
+            currency: item.currency,
+            residual: item.residual_term,
+            original: item.original_term,
+            lawful: item.lawful,
+            unrelated: item.unrelated,
+            unreflected: item.unreflected,
+            listed: item.listed,
+        }),
+        guarantee_count: record.guarantee_count,
+        guarantees: record.guarantees.map(|item| reference::Guarantee {
+            amount: item.amount,
+            class: item.class,
+            step: item.step,
+            currency: item.currency,
+            residual: item.residual_term,
+            original: item.original_term,
+            lawful: item.lawful,
+            direct: item.direct,
+            unreflected: item.unreflected,
+        }),
+    }
+}
+
+/// A record that the second implementation read from a book.
+pub fn from_reference(record: &reference::Record) -> Record {
+    let terms = record.terms;
+    Record {
+        terms: hadlephoga::Terms {
+            amount: terms.amount,
+            class: terms.class,
+            step: terms.step,
+            currency: terms.currency,
+            kind: terms.kind,
+            interval: terms.interval,
+            residual_term: terms.residual,
+            lent_type: terms.lent_goods,
+            lent_step: terms.lent_step,
+            lent_issue_life: terms.lent_life,
+        },
+        collateral_count: record.collateral_count,
+        collateral: record.collateral.map(|item| hadlephoga::Collateral {
+            amount: item.amount,
+            goods: item.goods,
+            step: item.step,
+            issue_life: item.life,
+            currency: item.currency,
+            residual_term: item.residual,
+            original_term: item.original,
+            lawful: item.lawful,
+            unrelated: item.unrelated,
+            unreflected: item.unreflected,
+            listed: item.listed,
+        }),
+        guarantee_count: record.guarantee_count,
+        guarantees: record.guarantees.map(|item| hadlephoga::Guarantee {
+            amount: item.amount,
+            class: item.class,
+            step: item.step,
+            currency: item.currency,
+            residual_term: item.residual,
+            original_term: item.original,
+            lawful: item.lawful,
+            direct: item.direct,
+            unreflected: item.unreflected,
+        }),
+    }
+}
+
+#[cfg(test)]
+mod tests {
+    use super::*;
+
+    #[test]
+    fn a_record_is_the_same_on_both_sides() {
+        let record = Record::from_numbers(&std::array::from_fn(|place| place as u64));
+        assert_eq!(from_reference(&to_reference(&record)), record);
+    }
+}

@@ -1,0 +1,177 @@
+//! Values of fields that opening and adding accept: the edges of every range
+//! and of every band, and typical values between them.
+
+use hadlephoga::{Collateral, Guarantee, Terms};
+
+use crate::random::Random;
+
+pub const AMOUNT_LIMIT: u64 = 1_000_000_000_000;
+pub const DAYS_LIMIT: u64 = 36_000;
+
+const TERM_EDGES: &[u64] = &[
+    1, 2, 30, 89, 90, 91, 92, 359, 360, 361, 1799, 1800, 1801, 35_999, 36_000,
+];
+const INTERVALS: &[u64] = &[1, 1, 1, 2, 5, 6, 10, 11, 20, 21, 249, 250];
+const CURRENCIES: &[u64] = &[978, 978, 840, 826, 1, 999];
+
+pub fn amount(random: &mut Random) -> u64 {
+    match random.below(20) {
+        0 => 0,
+        1 => 1,
+        2..=4 => random.between(2, 200),
+        5..=9 => random.between(200, 1_000_000),
+        10..=15 => random.between(1_000_000, 1_000_000_000),
+        16..=18 => random.between(1_000_000_000, AMOUNT_LIMIT),
+        _ => random.pick(&[AMOUNT_LIMIT - 1, AMOUNT_LIMIT]),
+    }
+}
+
+/// An item's amount: often a part of the deal's, so that exposure is left over
+/// and cover is used up about as often as not.
+fn item_amount(random: &mut Random, deal: &Terms, items: u64) -> u64 {
+    if random.percent(25) {
+        return amount(random);
+    }
+    let most = deal.amount / items.max(1) * 5 / 2;
+    random.between(0, most.clamp(1, AMOUNT_LIMIT))
+}
+
+fn term(random: &mut Random) -> u64 {
+    match random.below(4) {
+        0 | 1 => random.pick(TERM_EDGES),
+        2 => random.between(91, 3600),
+        _ => random.between(1, DAYS_LIMIT),
+    }
+}
+
+/// Residual and original term of cover, mostly long enough to count.
+fn cover_terms(random: &mut Random, deal: &Terms) -> (u64, u64) {
+    let due = deal.residual_term;
+    let residual = match random.below(10) {
+        0..=2 => due,
+        3..=5 => random.between(due, DAYS_LIMIT),
+        6 | 7 if due > 92 => random.between(91, due - 1),
+        8 => due.saturating_sub(1).max(1),
+        _ => term(random),
+    };
+    let original = match random.below(8) {
+        0 => residual,
+        1 => residual.max(random.between(359, 361)),
+        2 => DAYS_LIMIT,
+        _ => random.between(residual.max(360), DAYS_LIMIT),
+    };
+    (residual, original)
+}
+
+fn item_currency(random: &mut Random, deal: &Terms) -> u64 {
+    match random.below(10) {
+        0..=6 => deal.currency,
+        7 | 8 => random.pick(CURRENCIES),
+        _ => random.between(1, 999),
+    }
+}
+
+/// Met in nearly all cases.
+fn condition(random: &mut Random) -> u64 {
+    u64::from(!random.percent(3))
+}
+
+pub fn has_step(goods: u64) -> bool {
+    (2..=6).contains(&goods)
+}
+
+/// Type, step and issue life of goods; in so many cases of a hundred one of
+/// steps 1 to 3, which are eligible for most types.
+fn goods(random: &mut Random, eligible: u64) -> (u64, u64, u64) {
+    let goods = random.between(1, 9);
+    if !has_step(goods) {
+        return (goods, 0, 0);
+    }
+    let step = match random.percent(eligible) {
+        true => random.between(1, 3),
+        false => random.between(0, 6),
+    };
+    let life = match random.percent(50) {
+        true => random.pick(TERM_EDGES),
+        false => random.between(1, 3600),
+    };
+    (goods, step, life)
+}
+
+pub fn terms(random: &mut Random) -> Terms {
+    let class = random.weighted(&[(3, 1), (3, 2), (5, 3), (1, 4)]);
+    let step = match class {
+        4 => 0,
+        _ => random.between(0, 6),
+    };
+    let (lent_type, lent_step, lent_issue_life) = match random.percent(40) {
+        true => (1, 0, 0),
+        false => goods(random, 0),
+    };
+    let interval = match random.percent(80) {
+        true => random.pick(INTERVALS),
+        false => random.between(1, 250),
+    };
+    Terms {
+        amount: amount(random),
+        class,
+        step,
+        currency: random.pick(CURRENCIES),
+        kind: random.between(1, 3),
+        interval,
+        residual_term: term(random),
+        lent_type,
+        lent_step,
+        lent_issue_life,
+    }
+}
+
+/// One of so many items of the deal.
+pub fn collateral(random: &mut Random, deal: &Terms, items: u64) -> Collateral {
+    let (goods, step, issue_life) = goods(random, 60);
+    let (residual_term, original_term) = cover_terms(random, deal);
+    Collateral {
+        amount: item_amount(random, deal, items),
+        goods,
+        step,
+        issue_life,
+        currency: item_currency(random, deal),
+        residual_term,
+        original_term,
+        lawful: condition(random),
+        unrelated: condition(random),
+        unreflected: condition(random),
+        listed: random.below(2),
+    }
+}
+
+/// One of so many guarantees of the deal.
+pub fn guarantee(random: &mut Random, deal: &Terms, items: u64) -> Guarantee {
+    let step = match random.percent(50) {
+        true => random.between(1, 2),
+        false => random.between(0, 6),
+    };
+    let (residual_term, original_term) = cover_terms(random, deal);
+    Guarantee {
+        amount: item_amount(random, deal, items),
+        class: random.between(1, 3),
+        step,
+        currency: item_currency(random, deal),
+        residual_term,
+        original_term,
+        lawful: condition(random),
+        direct: condition(random),
+        unreflected: condition(random),
+    }
+}
+
+/// How many items a list has: few in most deals, sixteen in some.
+pub fn list_length(random: &mut Random) -> u64 {
+    match random.below(100) {
+        0..=19 => 0,
+        20..=74 => random.between(1, 3),
+        75..=91 => random.between(4, 8),
+        92..=96 => random.between(9, 15),
+        _ => 16,
+    }
+}

@@ -1,0 +1,93 @@
+/* Answers the sample book of document 01, reports its first deal, and shows
+ * what a refused call gives. */
+#include <inttypes.h>
+#include <stdio.h>
+#include <string.h>
+
+#include "hadlephoga.h"
+
+static const char sample[] =
+    "CRM\t1\n"
+    "D\t1000000\t3\t0\t978\t3\t1\t1800\t1\t0\t0\n"
+    "C\t400000\t2\t1\t720\t978\t1800\t1800\t1\t1\t1\t0\n"
+    "G\t200000\t1\t1\t978\t1800\t1800\t1\t1\t1\n"
+    "D\t500\t2\t7\t840\t1\t1\t30\t1\t0\t0\n"
+    "D\t900\t4\t0\t978\t3\t1\t90\t1\t0\t0\n";
+
+static void answer_sample(void)
+{
+  struct hadlephoga_answer answers[8];
+  uint64_t deals;
+  uint64_t refusal = hadlephoga_answers((const uint8_t *)sample, strlen(sample), answers, 8, &deals);
+
+  printf("book: refusal %" PRIu64 ", deals %" PRIu64 "\n", refusal, deals);
+  for (uint64_t i = 0; i < deals; i++) {
+    if (answers[i].refusal == 0)
+      printf("deal %" PRIu64 ": E* %" PRIu64 ", weighted amount %" PRIu64 "\n",
+             answers[i].serial, answers[i].exposure, answers[i].weighted_amount);
+    else
+      printf("deal %" PRIu64 ": refusal %" PRIu64 " in line %" PRIu64 "\n",
+             answers[i].serial, answers[i].refusal, answers[i].exposure);
+  }
+}
+
+/* The sample's first deal, with a related bond besides, which is left out. */
+static const struct hadlephoga_deal first = {
+    .amount = 1000000, .counterparty_class = 3, .step = 0, .currency = 978,
+    .kind = 3, .interval = 1, .residual_term = 1800,
+    .lent_type = 1, .lent_step = 0, .lent_issue_life = 0,
+    .collateral_count = 2,
+    .collateral = {
+        {.amount = 400000, .type = 2, .step = 1, .issue_life = 720, .currency = 978,
+         .residual_term = 1800, .original_term = 1800, .lawful = 1, .unrelated = 1, .unreflected = 1},
+        {.amount = 50000, .type = 3, .step = 2, .issue_life = 360, .currency = 978,
+         .residual_term = 1800, .original_term = 1800, .lawful = 1, .unrelated = 0, .unreflected = 1},
+    },
+    .guarantee_count = 1,
+    .guarantees = {
+        {.amount = 200000, .provider_class = 1, .step = 1, .currency = 978,
+         .residual_term = 1800, .original_term = 1800, .lawful = 1, .direct = 1, .unreflected = 1},
+    },
+};
+
+static void report_first(void)
+{
+  struct hadlephoga_report report;
+  uint64_t refusal = hadlephoga_report_of(&first, &report);
+
+  printf("report: refusal %" PRIu64 ", E* %" PRIu64 "\n", refusal, report.exposure);
+  for (uint64_t i = 0; i < first.collateral_count; i++)
+    printf("collateral %" PRIu64 ": value %" PRIu64 ", ground %" PRIu64 "\n", i + 1,
+           report.collateral[i].value, report.collateral[i].ground);
+  for (uint64_t i = 0; i < first.guarantee_count; i++)
+    printf("guarantee %" PRIu64 ": value %" PRIu64 ", ground %" PRIu64 ", portion %" PRIu64 "\n", i + 1,
+           report.guarantees[i].value, report.guarantees[i].ground, report.guarantees[i].portion);
+  printf("rest %" PRIu64 ", weighted amount %" PRIu64 "\n", report.rest, report.weighted_amount);
+}
+
+static void show_refusals(void)
+{
+  struct hadlephoga_deal unknown_class = first;
+  struct hadlephoga_report report;
+  struct hadlephoga_answer answers[2];
+  uint64_t short_list[HADLEPHOGA_REPORT_LENGTH - 1];
+  uint64_t deals;
+
+  unknown_class.counterparty_class = 5;
+  printf("unknown class: refusal %" PRIu64 "\n", hadlephoga_report_of(&unknown_class, &report));
+  printf("short report: refusal %" PRIu64 "\n",
+         hadlephoga_report_deal((const uint64_t *)&first, HADLEPHOGA_RECORD_LENGTH,
+                                short_list, HADLEPHOGA_REPORT_LENGTH - 1));
+  printf("two places for three deals: refusal %" PRIu64 "\n",
+         hadlephoga_answers((const uint8_t *)sample, strlen(sample), answers, 2, &deals));
+  printf("no header: refusal %" PRIu64 "\n",
+         hadlephoga_answers((const uint8_t *)"D\t1\n", 4, answers, 2, &deals));
+}
+
+int main(void)
+{
+  answer_sample();
+  report_first();
+  show_refusals();
+  return 0;
+}

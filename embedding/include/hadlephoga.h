@@ -1,0 +1,185 @@
+/*
+ * Credit-risk relief of a book of deals, or of one deal: haircuts, recognised
+ * values, covered portions and weighted amounts under CRE20 and CRE22 (2019).
+ *
+ * Link with libhadlephoga.a. Both calls take any bytes and any numbers: the
+ * answer to every input is a figure or a refusal by number. A pointer is not
+ * null, points to as many bytes or numbers as the length beside it says, and
+ * no list that is written overlaps another one. The library holds no state and
+ * allocates nothing, so calls may run side by side in any number of threads.
+ */
+#ifndef HADLEPHOGA_H
+#define HADLEPHOGA_H
+
+#include <stddef.h>
+#include <stdint.h>
+
+#ifdef __cplusplus
+extern "C" {
+#endif
+
+#define HADLEPHOGA_BOOK_LIMIT 65536   /* bytes of a book */
+#define HADLEPHOGA_ITEMS 16           /* places of collateral, and of guarantees */
+#define HADLEPHOGA_ANSWER_LENGTH 4    /* numbers that answer a deal of a book */
+#define HADLEPHOGA_RECORD_LENGTH 332  /* numbers of a deal's record */
+#define HADLEPHOGA_REPORT_LENGTH 83   /* numbers of a deal's report */
+
+/*
+ * Answers a book. Returns 0, or the refusal of the whole book, the first met:
+ *
+ *   10  longer than 65,536 bytes
+ *    9  the first line is not the header: C, R, M, tab, 1, line feed
+ *   12  there is a second line, and it does not begin with D and a tab
+ *   13  fewer than four numbers in results for each deal
+ *
+ * Four numbers are written for each deal, from the front of results (struct
+ * hadlephoga_answer), and nothing behind them; *deals is the count of deals.
+ * Where the book is refused, results is untouched and *deals is 0.
+ */
+uint64_t hadlephoga_answer_book(const uint8_t *book, size_t book_length,
+                                uint64_t *results, size_t results_length,
+                                uint64_t *deals);
+
+/*
+ * Reports one deal. Returns
+ *
+ *   13  report_length is below 83: nothing is written
+ *   40  record_length is not 332, a list count is above sixteen, or a field of
+ *       the deal or of a counted item is out of range: 83 zeros are written
+ *    0  otherwise: the 83 numbers of the report are written
+ *
+ * record has the layout of struct hadlephoga_deal, report that of struct
+ * hadlephoga_report. Numbers of report behind the 83 are untouched.
+ */
+uint64_t hadlephoga_report_deal(const uint64_t *record, size_t record_length,
+                                uint64_t *report, size_t report_length);
+
+/* The answer to a deal of a book. */
+struct hadlephoga_answer {
+  uint64_t serial;          /* from 1 */
+  uint64_t refusal;         /* of the deal's first refused line (1 to 8, 11), or 0 */
+  uint64_t exposure;        /* E*; where refused, that line's number (header: 1) */
+  uint64_t weighted_amount; /* where refused, 0 */
+};
+
+/* An amount is 0 to 1,000,000,000,000; a step 1 to 6, or 0 unrated; a currency
+ * its ISO 4217 number; a term or life 1 to 36,000 days; a condition 1 met or 0
+ * not met. */
+
+/* Goods: 1 cash, 2 sovereign debt, 3 other issuers' debt, 4 bank debt, 5
+ * securitisation, 6 re-securitisation, 7 main index equity, 8 other listed
+ * equity, 9 gold. Types 1, 7, 8, 9 have step 0 and issue life 0. */
+
+/* An item of collateral. */
+struct hadlephoga_collateral {
+  uint64_t amount;
+  uint64_t type;          /* of goods */
+  uint64_t step;
+  uint64_t issue_life;    /* of the security itself */
+  uint64_t currency;
+  uint64_t residual_term; /* of the pledge */
+  uint64_t original_term; /* of the pledge */
+  uint64_t lawful;
+  uint64_t unrelated;     /* to the counterparty */
+  uint64_t unreflected;   /* not already in the rating used */
+  uint64_t listed;        /* senior bank paper; counts for type 4 at step 0 alone */
+};
+
+/* A guarantee. */
+struct hadlephoga_guarantee {
+  uint64_t amount;
+  uint64_t provider_class; /* 1 sovereign, 2 bank or securities firm, 3 other entity */
+  uint64_t step;
+  uint64_t currency;
+  uint64_t residual_term;
+  uint64_t original_term;
+  uint64_t lawful;
+  uint64_t direct;
+  uint64_t unreflected; /* not already in the rating used */
+};
+
+/* A deal's record. Places at or past a count are not looked at. */
+struct hadlephoga_deal {
+  uint64_t amount;
+  uint64_t counterparty_class; /* 1 sovereign, 2 bank, 3 corporate, 4 retail (step 0) */
+  uint64_t step;
+  uint64_t currency;
+  uint64_t kind;     /* 1 repo-style, 2 other capital market, 3 secured lending */
+  uint64_t interval; /* of revaluation, 1 to 250 business days */
+  uint64_t residual_term;
+  uint64_t lent_type; /* a loan lends cash: 1, 0, 0 */
+  uint64_t lent_step;
+  uint64_t lent_issue_life;
+  uint64_t collateral_count;
+  struct hadlephoga_collateral collateral[HADLEPHOGA_ITEMS];
+  uint64_t guarantee_count;
+  struct hadlephoga_guarantee guarantees[HADLEPHOGA_ITEMS];
+};
+
+/* What an item of collateral is worth. The ground is 0 where it is valued;
+ * where it is left out, its value is 0 and the ground the first that applies:
+ * 21 not lawful, 22 related, 23 already in the rating, 24 not eligible by type
+ * and step, 25 mismatch with original term under 360, 26 mismatch with residual
+ * term of 90 or less. */
+struct hadlephoga_outcome {
+  uint64_t value;
+  uint64_t ground;
+};
+
+/* What a guarantee is worth, and the part of E* that it covers. Grounds: 21, 27
+ * not direct, 23, 28 other entity unrated, 25, 26, 29 provider's weight not
+ * below the counterparty's. */
+struct hadlephoga_cover {
+  uint64_t value;
+  uint64_t ground;
+  uint64_t portion;
+};
+
+/* A deal's report: items in order of adding, zeros past a count. */
+struct hadlephoga_report {
+  uint64_t exposure; /* E* */
+  struct hadlephoga_outcome collateral[HADLEPHOGA_ITEMS];
+  struct hadlephoga_cover guarantees[HADLEPHOGA_ITEMS];
+  uint64_t rest; /* of E*, uncovered */
+  uint64_t weighted_amount;
+};
+
+/* The structs are their numbers, one behind the other. C99 cannot say so. */
+#if defined(__cplusplus) && __cplusplus >= 201103L
+#define HADLEPHOGA_ASSERT static_assert
+#elif defined(__STDC_VERSION__) && __STDC_VERSION__ >= 201112L
+#define HADLEPHOGA_ASSERT _Static_assert
+#endif
+#ifdef HADLEPHOGA_ASSERT
+HADLEPHOGA_ASSERT(sizeof(struct hadlephoga_answer) == HADLEPHOGA_ANSWER_LENGTH * sizeof(uint64_t),
+                  "an answer is 4 numbers");
+HADLEPHOGA_ASSERT(sizeof(struct hadlephoga_collateral) == 11 * sizeof(uint64_t), "an item of collateral is 11 numbers");
+HADLEPHOGA_ASSERT(sizeof(struct hadlephoga_guarantee) == 9 * sizeof(uint64_t), "a guarantee is 9 numbers");
+HADLEPHOGA_ASSERT(sizeof(struct hadlephoga_deal) == HADLEPHOGA_RECORD_LENGTH * sizeof(uint64_t),
+                  "a record is 332 numbers");
+HADLEPHOGA_ASSERT(sizeof(struct hadlephoga_report) == HADLEPHOGA_REPORT_LENGTH * sizeof(uint64_t),
+                  "a report is 83 numbers");
+#undef HADLEPHOGA_ASSERT
+#endif
+
+/* hadlephoga_answer_book into a list of answers. */
+static inline uint64_t hadlephoga_answers(const uint8_t *book, size_t book_length,
+                                          struct hadlephoga_answer *answers, size_t answers_length,
+                                          uint64_t *deals)
+{
+  return hadlephoga_answer_book(book, book_length, (uint64_t *)answers,
+                                answers_length * HADLEPHOGA_ANSWER_LENGTH, deals);
+}
+
+/* hadlephoga_report_deal of a struct; 0 or 40. */
+static inline uint64_t hadlephoga_report_of(const struct hadlephoga_deal *deal, struct hadlephoga_report *report)
+{
+  return hadlephoga_report_deal((const uint64_t *)deal, HADLEPHOGA_RECORD_LENGTH,
+                                (uint64_t *)report, HADLEPHOGA_REPORT_LENGTH);
+}
+
+#ifdef __cplusplus
+}
+#endif
+
+#endif

@@ -1,0 +1,67 @@
+//! Answers the sample book of document 01 and reports a deal of its own.
+
+use hadlephoga::{answer_book, report, Collateral, Outcome, Record, Refusal, Terms};
+
+const SAMPLE: &[u8] = b"CRM\t1\n\
+    D\t1000000\t3\t0\t978\t3\t1\t1800\t1\t0\t0\n\
+    C\t400000\t2\t1\t720\t978\t1800\t1800\t1\t1\t1\t0\n\
+    G\t200000\t1\t1\t978\t1800\t1800\t1\t1\t1\n\
+    D\t500\t2\t7\t840\t1\t1\t30\t1\t0\t0\n\
+    D\t900\t4\t0\t978\t3\t1\t90\t1\t0\t0\n";
+
+fn main() -> Result<(), Refusal> {
+    let mut results = [0; 4 * 8];
+    let deals = answer_book(SAMPLE, &mut results)?;
+    for answer in results.chunks_exact(4).take(deals) {
+        match answer[1] {
+            0 => println!(
+                "deal {}: E* {}, weighted amount {}",
+                answer[0], answer[2], answer[3]
+            ),
+            refusal => println!(
+                "deal {}: {} (line {})",
+                answer[0],
+                Refusal(refusal),
+                answer[2]
+            ),
+        }
+    }
+
+    let loan = Terms {
+        amount: 1_000_000,
+        class: 3,
+        currency: 978,
+        kind: 3,
+        interval: 1,
+        residual_term: 1800,
+        lent_type: 1,
+        ..Terms::default()
+    };
+    let bond = Collateral {
+        amount: 400_000,
+        goods: 2,
+        step: 1,
+        issue_life: 720,
+        currency: 978,
+        residual_term: 1800,
+        original_term: 1800,
+        lawful: 1,
+        unrelated: 1,
+        unreflected: 1,
+        listed: 0,
+    };
+    let short = Collateral {
+        residual_term: 90,
+        ..bond
+    };
+    let report = report(&Record::new(loan, &[bond, short], &[]))?;
+    println!("exposure after collateral: {}", report.exposure);
+    for outcome in &report.collateral[..2] {
+        match outcome {
+            Outcome::Valued(value) => println!("valued at {value}"),
+            Outcome::LeftOut(ground) => println!("left out, {ground}"),
+        }
+    }
+    println!("weighted amount: {}", report.weighted_amount);
+    Ok(())
+}

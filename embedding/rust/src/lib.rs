@@ -1,0 +1,25 @@
+//! Safe calls into the proved calculator of credit-risk relief.
+//!
+//! A book of deals is answered by [`answer_book`], four numbers a deal; one
+//! deal is reported by [`report`], with the value or ground of every item. Both
+//! answer every input with figures or a [`Refusal`]; nothing panics.
+//!
+//! ```
+//! let book = b"CRM\t1\nD\t900\t4\t0\t978\t3\t1\t90\t1\t0\t0\n";
+//! let mut results = [0; 4];
+//! assert_eq!(hadlephoga::answer_book(book, &mut results), Ok(1));
+//! assert_eq!(results, [1, 0, 900, 675]);
+//! ```
+
+mod calls;
+mod numbers;
+mod record;
+mod refusal;
+mod report;
+
+pub use calls::{
+    answer_book, answer_book_numbers, report, report_numbers, BookReply, ANSWER_LENGTH, BOOK_LIMIT,
+};
+pub use record::{Collateral, Guarantee, Record, Terms, ITEMS, RECORD_LENGTH};
+pub use refusal::Refusal;
+pub use report::{Cover, Ground, Outcome, Report, REPORT_LENGTH};

@@ -1,0 +1,33 @@
+//! Refusals by number.
+
+use std::fmt;
+
+/// The number of a refusal: 9, 10, 12, 13 of a book; 1 to 8 and 11 of a line
+/// in a book; 40 of a record.
+#[derive(Clone, Copy, Debug, PartialEq, Eq)]
+pub struct Refusal(pub u64);
+
+impl fmt::Display for Refusal {
+    fn fmt(&self, out: &mut fmt::Formatter) -> fmt::Result {
+        let words = match self.0 {
+            1 => "amount over the limit",
+            2 => "unknown class, kind or type",
+            3 => "step above 6, or not 0 where 0 is due",
+            4 => "currency outside 1 to 999",
+            5 => "interval, term or issue life outside its range",
+            6 => "list is full",
+            7 => "residual term above the original one",
+            8 => "condition neither 0 nor 1",
+            9 => "first line is not the header",
+            10 => "book longer than 65,536 bytes",
+            11 => "malformed line",
+            12 => "second line opens no deal",
+            13 => "list too short",
+            40 => "record not accepted",
+            _ => "unknown refusal",
+        };
+        write!(out, "refusal {}: {words}", self.0)
+    }
+}
+
+impl std::error::Error for Refusal {}

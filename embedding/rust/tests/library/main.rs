@@ -1,0 +1,8 @@
+//! The wrapper and, through it, the proved library: one program, as each takes
+//! a link of its own.
+
+mod books;
+mod figures;
+mod records;
+mod sample;
+mod threads;

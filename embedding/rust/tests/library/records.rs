@@ -1,0 +1,202 @@
+//! Records of any numbers, and record and report lists of any length.
+
+use crate::sample::{CASH, GUARANTEE, LOAN};
+use hadlephoga::{
+    report, report_numbers, Collateral, Guarantee, Record, Refusal, Report, Terms, ITEMS,
+    RECORD_LENGTH, REPORT_LENGTH,
+};
+
+const MARK: u64 = 0xA5A5_A5A5_A5A5_A5A5;
+
+fn record() -> Record {
+    Record::new(LOAN, &[CASH], &[GUARANTEE])
+}
+
+fn is_refused(record: &Record) -> bool {
+    report(record) == Err(Refusal(40))
+}
+
+#[test]
+fn layout() {
+    assert_eq!(RECORD_LENGTH, 332);
+    assert_eq!(REPORT_LENGTH, 83);
+    let numbers = std::array::from_fn(|place| place as u64 + 1);
+    let record = Record::from_numbers(&numbers);
+    assert_eq!(record.terms.lent_issue_life, 10);
+    assert_eq!(record.collateral_count, 11);
+    assert_eq!(record.collateral[0].amount, 12);
+    assert_eq!(record.collateral[15].listed, 187);
+    assert_eq!(record.guarantee_count, 188);
+    assert_eq!(record.guarantees[0].amount, 189);
+    assert_eq!(record.guarantees[15].unreflected, 332);
+    assert_eq!(record.to_numbers(), numbers);
+}
+
+#[test]
+fn record_lists_of_other_lengths() {
+    let numbers = record().to_numbers();
+    let mut longer = numbers.to_vec();
+    longer.push(0);
+    for list in [&[] as &[u64], &numbers[..331], &longer] {
+        let mut report = [MARK; 90];
+        assert_eq!(report_numbers(list, &mut report), 40);
+        assert_eq!(report[..REPORT_LENGTH], [0; REPORT_LENGTH]);
+        assert_eq!(report[REPORT_LENGTH..], [MARK; 7]);
+        // 13 comes before 40.
+        assert_eq!(report_numbers(list, &mut report[..82]), 13);
+    }
+}
+
+#[test]
+fn report_lists_of_every_length() {
+    let numbers = record().to_numbers();
+    for length in [0, 1, 82] {
+        let mut report = vec![MARK; length];
+        assert_eq!(report_numbers(&numbers, &mut report), 13);
+        assert!(report.iter().all(|number| *number == MARK));
+    }
+    let mut exact = [MARK; REPORT_LENGTH];
+    assert_eq!(report_numbers(&numbers, &mut exact), 0);
+    let mut longer = [MARK; 90];
+    assert_eq!(report_numbers(&numbers, &mut longer), 0);
+    assert_eq!(longer[..REPORT_LENGTH], exact);
+    assert_eq!(longer[REPORT_LENGTH..], [MARK; 7]);
+    assert_eq!(Ok(Report::from_numbers(&exact)), report(&record()));
+}
+
+#[test]
+fn counts() {
+    for count in [17, 18, 20, 255, 256, 1 << 32, u64::MAX - 1, u64::MAX] {
+        let mut record = record();
+        record.collateral = [CASH; ITEMS];
+        record.guarantees = [GUARANTEE; ITEMS];
+        record.collateral_count = count;
+        assert!(is_refused(&record));
+        record.collateral_count = 16;
+        assert!(report(&record).is_ok());
+        record.guarantee_count = count;
+        assert!(is_refused(&record));
+    }
+    assert!(is_refused(&Record::new(LOAN, &[CASH; 17], &[])));
+    assert!(is_refused(&Record::new(LOAN, &[], &[GUARANTEE; 17])));
+    assert!(report(&Record::new(LOAN, &[CASH; 16], &[GUARANTEE; 16])).is_ok());
+}
+
+#[test]
+fn largest_numbers_everywhere() {
+    let mut report = [MARK; REPORT_LENGTH];
+    assert_eq!(report_numbers(&[u64::MAX; RECORD_LENGTH], &mut report), 40);
+    assert_eq!(report, [0; REPORT_LENGTH]);
+    assert_eq!(report_numbers(&[0; RECORD_LENGTH], &mut report), 40);
+}
+
+#[test]
+fn largest_number_in_each_field() {
+    let full = Record::new(LOAN, &[CASH; ITEMS], &[GUARANTEE; ITEMS]).to_numbers();
+    for place in 0..RECORD_LENGTH {
+        let mut numbers = full;
+        numbers[place] = u64::MAX;
+        let mut report = [MARK; REPORT_LENGTH];
+        assert_eq!(report_numbers(&numbers, &mut report), 40, "place {place}");
+        assert_eq!(report, [0; REPORT_LENGTH]);
+    }
+}
+
+#[test]
+fn places_past_a_count_do_not_matter() {
+    let clean = record();
+    let mut record = record();
+    record.collateral[1..].fill(Collateral::from_numbers(&[u64::MAX; 11]));
+    record.guarantees[1..].fill(Guarantee::from_numbers(&[u64::MAX; 9]));
+    assert_eq!(report(&record), report(&clean));
+    assert!(report(&clean).is_ok());
+}
+
+#[test]
+fn fields_just_outside_their_ranges() {
+    let limit = 1_000_000_000_000;
+    assert!(report(&Record::new(
+        Terms {
+            amount: limit,
+            ..LOAN
+        },
+        &[],
+        &[]
+    ))
+    .is_ok());
+    for terms in [
+        Terms {
+            amount: limit + 1,
+            ..LOAN
+        },
+        Terms { class: 5, ..LOAN },
+        Terms { class: 0, ..LOAN },
+        Terms { step: 7, ..LOAN },
+        Terms {
+            class: 4,
+            step: 1,
+            ..LOAN
+        },
+        Terms {
+            currency: 0,
+            ..LOAN
+        },
+        Terms {
+            currency: 1000,
+            ..LOAN
+        },
+        Terms { kind: 4, ..LOAN },
+        Terms {
+            interval: 0,
+            ..LOAN
+        },
+        Terms {
+            interval: 251,
+            ..LOAN
+        },
+        Terms {
+            residual_term: 36_001,
+            ..LOAN
+        },
+        Terms {
+            lent_type: 10,
+            ..LOAN
+        },
+        Terms {
+            lent_step: 1,
+            ..LOAN
+        },
+        Terms {
+            lent_issue_life: 1,
+            ..LOAN
+        },
+    ] {
+        assert!(is_refused(&Record::new(terms, &[], &[])), "{terms:?}");
+    }
+    for item in [
+        Collateral {
+            residual_term: 1801,
+            ..CASH
+        },
+        Collateral { goods: 2, ..CASH },
+        Collateral { listed: 2, ..CASH },
+    ] {
+        assert!(is_refused(&Record::new(LOAN, &[item], &[])), "{item:?}");
+    }
+    for item in [
+        Guarantee {
+            class: 4,
+            ..GUARANTEE
+        },
+        Guarantee {
+            original_term: 1799,
+            ..GUARANTEE
+        },
+        Guarantee {
+            direct: 2,
+            ..GUARANTEE
+        },
+    ] {
+        assert!(is_refused(&Record::new(LOAN, &[], &[item])), "{item:?}");
+    }
+}

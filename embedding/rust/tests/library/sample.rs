@@ -1,0 +1,55 @@
+//! The sample book of document 01, and plain deals and items that a test
+//! changes in a field or two.
+
+use hadlephoga::{Collateral, Guarantee, Terms};
+
+pub const SAMPLE: &[u8] = b"CRM\t1\n\
+    D\t1000000\t3\t0\t978\t3\t1\t1800\t1\t0\t0\n\
+    C\t400000\t2\t1\t720\t978\t1800\t1800\t1\t1\t1\t0\n\
+    G\t200000\t1\t1\t978\t1800\t1800\t1\t1\t1\n\
+    D\t500\t2\t7\t840\t1\t1\t30\t1\t0\t0\n\
+    D\t900\t4\t0\t978\t3\t1\t90\t1\t0\t0\n";
+
+pub const SAMPLE_RESULTS: [u64; 12] = [1, 0, 611314, 411314, 2, 3, 5, 0, 3, 0, 900, 675];
+
+/// A loan of 1,000,000 for 1,800 days to an unrated corporate, revalued daily.
+pub const LOAN: Terms = Terms {
+    amount: 1_000_000,
+    class: 3,
+    step: 0,
+    currency: 978,
+    kind: 3,
+    interval: 1,
+    residual_term: 1800,
+    lent_type: 1,
+    lent_step: 0,
+    lent_issue_life: 0,
+};
+
+/// Cash of 1,000,000 for the loan's whole term.
+pub const CASH: Collateral = Collateral {
+    amount: 1_000_000,
+    goods: 1,
+    step: 0,
+    issue_life: 0,
+    currency: 978,
+    residual_term: 1800,
+    original_term: 1800,
+    lawful: 1,
+    unrelated: 1,
+    unreflected: 1,
+    listed: 0,
+};
+
+/// A guarantee of 200,000 by a sovereign of step 1 for the loan's whole term.
+pub const GUARANTEE: Guarantee = Guarantee {
+    amount: 200_000,
+    class: 1,
+    step: 1,
+    currency: 978,
+    residual_term: 1800,
+    original_term: 1800,
+    lawful: 1,
+    direct: 1,
+    unreflected: 1,
+};

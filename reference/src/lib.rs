@@ -1,0 +1,30 @@
+//! A second implementation of the relief calculator of document 01, written
+//! from the paper alone: exposure after collateral (E*), grounds for protection
+//! left out, and the risk-weighted amount, for a book of deals or for one deal.
+//!
+//! No function panics or overflows, whatever the input: the numbers of a record
+//! are tested before any arithmetic is done on them, and the arithmetic on
+//! tested numbers is either far inside `u64` or done in `u128`.
+
+#![forbid(unsafe_code)]
+
+mod acceptance;
+mod answer;
+mod book;
+mod maturity;
+mod printing;
+mod protection;
+mod record;
+mod reporting;
+mod scaling;
+mod share;
+mod tables;
+
+pub mod ground;
+pub mod refusal;
+
+pub use acceptance::{add_collateral, add_guarantee, open};
+pub use answer::{answer_book, deals, BookReply, DealRead};
+pub use printing::{printed, printed_reports};
+pub use record::{Collateral, Guarantee, Record, Terms, AMOUNT_LIMIT, LIST_LIMIT};
+pub use reporting::{report, Outcome, Report};

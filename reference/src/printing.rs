@@ -1,0 +1,90 @@
+//! What is printed for a book: the answer of `crmbook` (01: The book), and the
+//! whole report of each deal in a form of this crate's own.
+
+use std::fmt::{self, Display, Formatter};
+
+use crate::answer::{answer_book, deals, DealRead, NUMBERS_A_DEAL};
+use crate::record::Record;
+use crate::reporting::{evaluated, Outcome};
+
+/// Deals that the results list of `crmbook` has room for.
+const MOST_DEALS: usize = 2_048;
+
+/// What the program `crmbook` prints for a book.
+pub fn printed(book: &[u8]) -> Vec<u8> {
+    let mut results = vec![0; MOST_DEALS * NUMBERS_A_DEAL];
+    let reply = answer_book(book, &mut results);
+    let text = match reply.refusal {
+        0 => Answer(&results[..reply.deals * NUMBERS_A_DEAL]).to_string(),
+        refusal => refused(refusal),
+    };
+    text.into_bytes()
+}
+
+/// The report of each deal of a book, a figure a line, parted by tabs; README.md
+/// describes the lines. Books of any number of deals are reported.
+pub fn printed_reports(book: &[u8]) -> Vec<u8> {
+    let text = match deals(book) {
+        Ok(deals) => Reports(&deals).to_string(),
+        Err(refusal) => refused(refusal),
+    };
+    text.into_bytes()
+}
+
+fn refused(refusal: u64) -> String {
+    format!("REFUSED\t{refusal}\n")
+}
+
+/// The results list of an answered book.
+struct Answer<'a>(&'a [u64]);
+
+impl Display for Answer<'_> {
+    fn fmt(&self, out: &mut Formatter) -> fmt::Result {
+        writeln!(out, "RESULT\t1")?;
+        for four in self.0.chunks_exact(NUMBERS_A_DEAL) {
+            writeln!(out, "{}\t{}\t{}\t{}", four[0], four[1], four[2], four[3])?;
+        }
+        Ok(())
+    }
+}
+
+struct Reports<'a>(&'a [DealRead]);
+
+impl Display for Reports<'_> {
+    fn fmt(&self, out: &mut Formatter) -> fmt::Result {
+        writeln!(out, "REPORT\t1")?;
+        for (serial, deal) in (1..).zip(self.0) {
+            match deal {
+                DealRead::Accepted(record) => write_report(out, serial, record)?,
+                DealRead::Refused { refusal, line } => {
+                    writeln!(out, "{serial}\tREFUSED\t{refusal}\t{line}")?;
+                }
+            }
+        }
+        Ok(())
+    }
+}
+
+fn write_report(out: &mut Formatter, serial: u64, record: &Record) -> fmt::Result {
+    let report = evaluated(record);
+    let collateral = report.collateral.iter().zip(record.counted_collateral());
+    let guarantees = report.guarantees.iter().zip(record.counted_guarantees());
+    writeln!(out, "{serial}\tEXPOSURE\t{}", report.exposure)?;
+    for (place, (outcome, _)) in (1..).zip(collateral) {
+        writeln!(out, "{serial}\tCOLLATERAL\t{place}\t{outcome}")?;
+    }
+    for (place, ((outcome, portion), _)) in (1..).zip(guarantees) {
+        writeln!(out, "{serial}\tGUARANTEE\t{place}\t{outcome}\t{portion}")?;
+    }
+    writeln!(out, "{serial}\tREST\t{}", report.rest)?;
+    writeln!(out, "{serial}\tWEIGHTED\t{}", report.weighted)
+}
+
+impl Display for Outcome {
+    fn fmt(&self, out: &mut Formatter) -> fmt::Result {
+        match self {
+            Outcome::Valued(value) => write!(out, "VALUE\t{value}"),
+            Outcome::LeftOut(ground) => write!(out, "GROUND\t{ground}"),
+        }
+    }
+}

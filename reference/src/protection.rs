@@ -1,0 +1,62 @@
+//! Value of an item of protection, or the ground for leaving it out
+//! (01: From items to the weighted amount, 1 and 2; Grounds for leaving an item
+//! out). The grounds are tested in the paper's order and the first one ends it.
+
+use crate::maturity::maturity_share;
+use crate::record::{Collateral, Guarantee, Terms};
+use crate::scaling::{deal_days, guarantee_days, scaled};
+use crate::share::Share;
+use crate::{ground, tables};
+
+/// Value of an item of collateral of an accepted deal.
+pub fn collateral_value(terms: &Terms, item: &Collateral) -> Result<u64, u8> {
+    ensure(item.lawful == 1, ground::NOT_LAWFUL)?;
+    ensure(item.unrelated == 1, ground::RELATED)?;
+    ensure(item.unreflected == 1, ground::IN_RATING)?;
+    let haircut = tables::collateral_haircut(item.goods, item.step, item.life, item.listed == 1)
+        .ok_or(ground::NOT_ELIGIBLE)?;
+    let surviving = maturity_share(item.residual, item.original, terms.residual)?;
+
+    let days = deal_days(terms.kind, terms.interval);
+    let haircuts = scaled(haircut, days) + currency_haircut(item.currency, terms.currency, days);
+    Ok(surviving.of(Share::left_by(haircuts).of(item.amount)))
+}
+
+/// Value of a guarantee of an accepted deal.
+pub fn guarantee_value(terms: &Terms, item: &Guarantee) -> Result<u64, u8> {
+    ensure(item.lawful == 1, ground::NOT_LAWFUL)?;
+    ensure(item.direct == 1, ground::NOT_DIRECT)?;
+    ensure(item.unreflected == 1, ground::IN_RATING)?;
+    let unrated_entity = item.class == tables::OTHER_ENTITY && item.step == 0;
+    ensure(!unrated_entity, ground::UNRATED_PROVIDER)?;
+    let surviving = maturity_share(item.residual, item.original, terms.residual)?;
+    ensure(
+        provider_weight(item) < counterparty_weight(terms),
+        ground::WEIGHT_NOT_LOWER,
+    )?;
+
+    let days = guarantee_days(terms.interval);
+    let haircut = currency_haircut(item.currency, terms.currency, days);
+    Ok(surviving.of(Share::left_by(haircut).of(item.amount)))
+}
+
+pub fn provider_weight(item: &Guarantee) -> u64 {
+    tables::risk_weight(item.class, item.step)
+}
+
+pub fn counterparty_weight(terms: &Terms) -> u64 {
+    tables::risk_weight(terms.class, terms.step)
+}
+
+/// Scaled by itself, before it is added to another haircut.
+fn currency_haircut(cover: u64, deal: u64, days: u64) -> u64 {
+    if cover == deal {
+        0
+    } else {
+        scaled(tables::CURRENCY_HAIRCUT, days)
+    }
+}
+
+fn ensure(met: bool, ground: u8) -> Result<(), u8> {
+    met.then_some(()).ok_or(ground)
+}

@@ -1,0 +1,165 @@
+//! What a deal holds (01: What a deal holds). All fields are plain numbers, so
+//! that a record can also hold what opening and adding would refuse.
+
+/// Largest amount of a deal or an item, in currency units.
+pub const AMOUNT_LIMIT: u64 = 1_000_000_000_000;
+/// Places in each list of a record.
+pub const LIST_LIMIT: usize = 16;
+
+/// The terms of the exposure itself.
+#[derive(Clone, Copy, Debug, Default, PartialEq, Eq)]
+pub struct Terms {
+    pub amount: u64,
+    /// Counterparty: 1 sovereign, 2 bank, 3 corporate, 4 retail.
+    pub class: u64,
+    pub step: u64,
+    pub currency: u64,
+    /// 1 repo-style, 2 other capital market, 3 secured lending.
+    pub kind: u64,
+    /// Business days between revaluations.
+    pub interval: u64,
+    pub residual: u64,
+    pub lent_goods: u64,
+    pub lent_step: u64,
+    pub lent_life: u64,
+}
+
+/// An item of collateral.
+#[derive(Clone, Copy, Debug, Default, PartialEq, Eq)]
+pub struct Collateral {
+    pub amount: u64,
+    pub goods: u64,
+    pub step: u64,
+    /// The security's own residual life, never the term of the pledge.
+    pub life: u64,
+    pub currency: u64,
+    /// Residual term of the pledge.
+    pub residual: u64,
+    /// Original term of the pledge.
+    pub original: u64,
+    pub lawful: u64,
+    pub unrelated: u64,
+    /// Not already in the rating used.
+    pub unreflected: u64,
+    /// Listed senior bank paper; counts only for bank debt at step 0.
+    pub listed: u64,
+}
+
+/// A guarantee.
+#[derive(Clone, Copy, Debug, Default, PartialEq, Eq)]
+pub struct Guarantee {
+    pub amount: u64,
+    /// Provider: 1 sovereign, 2 bank or securities firm, 3 other entity.
+    pub class: u64,
+    pub step: u64,
+    pub currency: u64,
+    pub residual: u64,
+    pub original: u64,
+    pub lawful: u64,
+    pub direct: u64,
+    /// Not already in the rating used.
+    pub unreflected: u64,
+}
+
+/// A deal with its protection. Only the places below a list's count belong to
+/// the deal; a count may be any number and is tested by reporting and adding.
+#[derive(Clone, Debug, PartialEq, Eq)]
+pub struct Record {
+    pub terms: Terms,
+    pub collateral_count: u64,
+    pub collateral: [Collateral; LIST_LIMIT],
+    pub guarantee_count: u64,
+    pub guarantees: [Guarantee; LIST_LIMIT],
+}
+
+impl Record {
+    /// A deal without protection; nothing is tested.
+    pub(crate) fn new(terms: Terms) -> Self {
+        Record {
+            terms,
+            collateral_count: 0,
+            collateral: [Collateral::default(); LIST_LIMIT],
+            guarantee_count: 0,
+            guarantees: [Guarantee::default(); LIST_LIMIT],
+        }
+    }
+
+    /// The counted collateral; all sixteen places where the count is larger.
+    pub(crate) fn counted_collateral(&self) -> &[Collateral] {
+        counted(&self.collateral, self.collateral_count)
+    }
+
+    /// The counted guarantees; all sixteen places where the count is larger.
+    pub(crate) fn counted_guarantees(&self) -> &[Guarantee] {
+        counted(&self.guarantees, self.guarantee_count)
+    }
+}
+
+fn counted<T>(list: &[T; LIST_LIMIT], count: u64) -> &[T] {
+    &list[..place(count)]
+}
+
+/// A list count as a place in the list, at most the place behind its end.
+pub(crate) fn place(count: u64) -> usize {
+    count.min(LIST_LIMIT as u64) as usize
+}
+
+impl From<[u64; 10]> for Terms {
+    /// The fields in the order of a D line.
+    fn from(fields: [u64; 10]) -> Self {
+        let [amount, class, step, currency, kind, interval, residual, lent_goods, lent_step, lent_life] =
+            fields;
+        Terms {
+            amount,
+            class,
+            step,
+            currency,
+            kind,
+            interval,
+            residual,
+            lent_goods,
+            lent_step,
+            lent_life,
+        }
+    }
+}
+
+impl From<[u64; 11]> for Collateral {
+    /// The fields in the order of a C line.
+    fn from(fields: [u64; 11]) -> Self {
+        let [amount, goods, step, life, currency, residual, original, lawful, unrelated, unreflected, listed] =
+            fields;
+        Collateral {
+            amount,
+            goods,
+            step,
+            life,
+            currency,
+            residual,
+            original,
+            lawful,
+            unrelated,
+            unreflected,
+            listed,
+        }
+    }
+}
+
+impl From<[u64; 9]> for Guarantee {
+    /// The fields in the order of a G line.
+    fn from(fields: [u64; 9]) -> Self {
+        let [amount, class, step, currency, residual, original, lawful, direct, unreflected] =
+            fields;
+        Guarantee {
+            amount,
+            class,
+            step,
+            currency,
+            residual,
+            original,
+            lawful,
+            direct,
+            unreflected,
+        }
+    }
+}

@@ -1,0 +1,30 @@
+//! The refusals by number (01: The four operations, The book).
+
+/// Amount over the limit.
+pub const AMOUNT: u64 = 1;
+/// Unknown class, kind or goods type.
+pub const CODE: u64 = 2;
+/// Step above 6, or not 0 where 0 is due.
+pub const STEP: u64 = 3;
+/// Currency outside 1 to 999.
+pub const CURRENCY: u64 = 4;
+/// Interval, term or issue life outside its range.
+pub const DAYS: u64 = 5;
+/// The list is full.
+pub const FULL: u64 = 6;
+/// Residual term above the original term.
+pub const RESIDUAL: u64 = 7;
+/// A condition neither 0 nor 1.
+pub const CONDITION: u64 = 8;
+/// First line of the book wrong.
+pub const HEADER: u64 = 9;
+/// Book longer than 65,536 bytes.
+pub const LENGTH: u64 = 10;
+/// Line that cannot be read.
+pub const LINE: u64 = 11;
+/// The second line exists and opens no deal.
+pub const SECOND_LINE: u64 = 12;
+/// Results list too short.
+pub const RESULTS: u64 = 13;
+/// Record that opening and adding would not have built.
+pub const RECORD: u64 = 40;

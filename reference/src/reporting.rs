@@ -1,0 +1,148 @@
+//! Reporting a deal (01: From items to the weighted amount; Reporting a deal).
+
+use crate::acceptance::is_accepted;
+use crate::protection::{collateral_value, counterparty_weight, guarantee_value, provider_weight};
+use crate::record::{Guarantee, Record, Terms, LIST_LIMIT};
+use crate::scaling::{deal_days, scaled};
+use crate::share::raised;
+use crate::{refusal, tables};
+
+/// What an item counts for: its value, or the ground for leaving it out.
+#[derive(Clone, Copy, Debug, PartialEq, Eq)]
+pub enum Outcome {
+    Valued(u64),
+    LeftOut(u8),
+}
+
+impl From<Result<u64, u8>> for Outcome {
+    fn from(result: Result<u64, u8>) -> Self {
+        match result {
+            Ok(value) => Outcome::Valued(value),
+            Err(ground) => Outcome::LeftOut(ground),
+        }
+    }
+}
+
+/// The report of a deal. Items stand in order of adding; places past a count
+/// hold value 0 and portion 0.
+#[derive(Clone, Debug, PartialEq, Eq)]
+pub struct Report {
+    /// 0, or 40 with zeros in all the rest.
+    pub refusal: u64,
+    /// E*, the exposure after collateral.
+    pub exposure: u64,
+    pub collateral: [Outcome; LIST_LIMIT],
+    /// Each guarantee's outcome and the portion of E* that it covers.
+    pub guarantees: [(Outcome, u64); LIST_LIMIT],
+    /// The part of E* that no guarantee covers.
+    pub rest: u64,
+    /// The risk-weighted amount.
+    pub weighted: u64,
+}
+
+impl Report {
+    const ZERO: Report = Report {
+        refusal: 0,
+        exposure: 0,
+        collateral: [Outcome::Valued(0); LIST_LIMIT],
+        guarantees: [(Outcome::Valued(0), 0); LIST_LIMIT],
+        rest: 0,
+        weighted: 0,
+    };
+}
+
+/// Reports any record: the figures of an accepted deal, or refusal 40.
+pub fn report(record: &Record) -> Report {
+    if is_accepted(record) {
+        evaluated(record)
+    } else {
+        Report {
+            refusal: refusal::RECORD,
+            ..Report::ZERO
+        }
+    }
+}
+
+/// The report of a record that is known to be accepted.
+pub(crate) fn evaluated(record: &Record) -> Report {
+    let mut report = Report::ZERO;
+    let collateral_total = value_collateral(record, &mut report);
+    report.exposure = exposure_after(&record.terms, collateral_total);
+    value_guarantees(record, &mut report);
+    cover(record, &mut report);
+    report
+}
+
+/// Fills in each item's outcome and gives the sum of the values, which stays
+/// within sixteen times the amount limit.
+fn value_collateral(record: &Record, report: &mut Report) -> u64 {
+    let mut total = 0;
+    for (item, place) in record
+        .counted_collateral()
+        .iter()
+        .zip(&mut report.collateral)
+    {
+        let value = collateral_value(&record.terms, item);
+        total += value.unwrap_or(0);
+        *place = value.into();
+    }
+    total
+}
+
+/// E*: the raised exposure less all collateral, not below 0 and never above the
+/// deal's amount (CRE22.4 decides over CRE22.40).
+fn exposure_after(terms: &Terms, collateral_total: u64) -> u64 {
+    let haircut = tables::lent_haircut(terms.lent_goods, terms.lent_step, terms.lent_life);
+    let days = deal_days(terms.kind, terms.interval);
+    raised(terms.amount, scaled(haircut, days))
+        .saturating_sub(collateral_total)
+        .min(terms.amount)
+}
+
+fn value_guarantees(record: &Record, report: &mut Report) {
+    for (item, place) in record
+        .counted_guarantees()
+        .iter()
+        .zip(&mut report.guarantees)
+    {
+        place.0 = guarantee_value(&record.terms, item).into();
+    }
+}
+
+/// Lets the recognised guarantees cover E* in rising order of weight and gives
+/// the rest the counterparty's weight. The division by 100 comes once, at the
+/// end, so that no portion is rounded by itself.
+fn cover(record: &Record, report: &mut Report) {
+    let mut rest = report.exposure;
+    let mut hundredfold = 0;
+    let mut ranking = [(0, 0); LIST_LIMIT];
+    for &(weight, place) in ranked(record.counted_guarantees(), report, &mut ranking) {
+        if let (Outcome::Valued(value), portion) = &mut report.guarantees[place] {
+            *portion = rest.min(*value);
+            rest -= *portion;
+            hundredfold += u128::from(*portion) * u128::from(weight);
+        }
+    }
+    hundredfold += u128::from(rest) * u128::from(counterparty_weight(&record.terms));
+    report.rest = rest;
+    report.weighted = hundredfold.div_ceil(100) as u64;
+}
+
+/// Weight and place of each recognised guarantee by rising weight. The sort is
+/// stable, so equal weights stay in order of adding.
+fn ranked<'a>(
+    guarantees: &[Guarantee],
+    report: &Report,
+    ranking: &'a mut [(u64, usize); LIST_LIMIT],
+) -> &'a [(u64, usize)] {
+    let mut recognised = 0;
+    for (place, item) in guarantees.iter().enumerate() {
+        if matches!(report.guarantees[place].0, Outcome::Valued(_)) {
+            ranking[recognised] = (provider_weight(item), place);
+            recognised += 1;
+        }
+    }
+    let ranking = &mut ranking[..recognised];
+    ranking.sort_by_key(|&(weight, _)| weight);
+    ranking
+}

@@ -1,0 +1,303 @@
+//! Sample deals, the lines of a book, and a generator of random ones.
+
+#![allow(dead_code)] // each test file uses some of these
+
+use reference::{
+    add_collateral, add_guarantee, open, Collateral, Guarantee, Outcome, Record, Terms,
+};
+
+/// An unrated corporate's loan of cash for 1,800 days, revalued daily.
+pub const TERMS: Terms = Terms {
+    amount: 1_000_000,
+    class: 3,
+    step: 0,
+    currency: 978,
+    kind: 3,
+    interval: 1,
+    residual: 1_800,
+    lent_goods: 1,
+    lent_step: 0,
+    lent_life: 0,
+};
+
+/// Cash in the deal's currency and for its whole term.
+pub const CASH: Collateral = Collateral {
+    amount: 1_000,
+    goods: 1,
+    step: 0,
+    life: 0,
+    currency: 978,
+    residual: 1_800,
+    original: 1_800,
+    lawful: 1,
+    unrelated: 1,
+    unreflected: 1,
+    listed: 0,
+};
+
+/// A guarantee at weight 0 in the deal's currency and for its whole term.
+pub const GUARANTEE: Guarantee = Guarantee {
+    amount: 1_000,
+    class: 1,
+    step: 1,
+    currency: 978,
+    residual: 1_800,
+    original: 1_800,
+    lawful: 1,
+    direct: 1,
+    unreflected: 1,
+};
+
+/// Opens a deal and adds the items, none of which may be refused.
+pub fn deal(terms: Terms, collateral: &[Collateral], guarantees: &[Guarantee]) -> Record {
+    let mut record = open(terms).expect("accepted terms");
+    for item in collateral {
+        assert_eq!(add_collateral(&mut record, *item), 0);
+    }
+    for item in guarantees {
+        assert_eq!(add_guarantee(&mut record, *item), 0);
+    }
+    record
+}
+
+/// Outcome of a single item of collateral.
+pub fn outcome_of_collateral(terms: Terms, item: Collateral) -> Outcome {
+    reference::report(&deal(terms, &[item], &[])).collateral[0]
+}
+
+/// Outcome of a single guarantee.
+pub fn outcome_of_guarantee(terms: Terms, item: Guarantee) -> Outcome {
+    reference::report(&deal(terms, &[], &[item])).guarantees[0].0
+}
+
+pub fn terms_fields(t: &Terms) -> [u64; 10] {
+    [
+        t.amount,
+        t.class,
+        t.step,
+        t.currency,
+        t.kind,
+        t.interval,
+        t.residual,
+        t.lent_goods,
+        t.lent_step,
+        t.lent_life,
+    ]
+}
+
+pub fn collateral_fields(c: &Collateral) -> [u64; 11] {
+    [
+        c.amount,
+        c.goods,
+        c.step,
+        c.life,
+        c.currency,
+        c.residual,
+        c.original,
+        c.lawful,
+        c.unrelated,
+        c.unreflected,
+        c.listed,
+    ]
+}
+
+pub fn guarantee_fields(g: &Guarantee) -> [u64; 9] {
+    [
+        g.amount,
+        g.class,
+        g.step,
+        g.currency,
+        g.residual,
+        g.original,
+        g.lawful,
+        g.direct,
+        g.unreflected,
+    ]
+}
+
+/// A line of the book with its line feed.
+pub fn line(letter: char, fields: &[u64]) -> String {
+    let fields: String = fields.iter().map(|field| format!("\t{field}")).collect();
+    format!("{letter}{fields}\n")
+}
+
+pub fn terms_line(terms: &Terms) -> String {
+    line('D', &terms_fields(terms))
+}
+
+pub fn collateral_line(item: &Collateral) -> String {
+    line('C', &collateral_fields(item))
+}
+
+pub fn guarantee_line(item: &Guarantee) -> String {
+    line('G', &guarantee_fields(item))
+}
+
+/// The paper shows tabs as spaces.
+pub fn tabbed(text: &str) -> Vec<u8> {
+    text.replace(' ', "\t").into_bytes()
+}
+
+/// Marsaglia's xorshift generator.
+pub struct Random(u64);
+
+impl Random {
+    pub fn new(seed: u64) -> Self {
+        Random(seed.max(1))
+    }
+
+    pub fn any(&mut self) -> u64 {
+        self.0 ^= self.0 << 13;
+        self.0 ^= self.0 >> 7;
+        self.0 ^= self.0 << 17;
+        self.0.wrapping_mul(0x2545_F491_4F6C_DD1D)
+    }
+
+    /// From `low` to `high`, both included.
+    pub fn within(&mut self, low: u64, high: u64) -> u64 {
+        low + self.any() % (high - low + 1)
+    }
+
+    pub fn chance(&mut self, one_in: u64) -> bool {
+        self.any() % one_in == 0
+    }
+
+    pub fn pick(&mut self, from: &[u64]) -> u64 {
+        from[(self.any() % from.len() as u64) as usize]
+    }
+
+    pub fn amount(&mut self) -> u64 {
+        match self.within(0, 3) {
+            0 => self.within(0, 300),
+            1 => self.within(0, 1_000_000),
+            2 => self.within(0, 1_000_000_000_000),
+            _ => self.pick(&[0, 1, 100, 1_000_000, 999_999_999_999, 1_000_000_000_000]),
+        }
+    }
+
+    pub fn days(&mut self) -> u64 {
+        match self.within(0, 3) {
+            0 => self.within(1, 400),
+            1 => self.within(1, 2_000),
+            2 => self.within(1, 36_000),
+            _ => self.pick(&[
+                1, 89, 90, 91, 92, 359, 360, 361, 1_799, 1_800, 1_801, 35_999, 36_000,
+            ]),
+        }
+    }
+
+    fn currency(&mut self) -> u64 {
+        self.pick(&[978, 978, 978, 840, 1, 999])
+    }
+
+    fn interval(&mut self) -> u64 {
+        match self.within(0, 2) {
+            0 => self.within(1, 250),
+            1 => self.within(1, 20),
+            _ => self.pick(&[1, 2, 249, 250]),
+        }
+    }
+
+    fn met(&mut self) -> u64 {
+        u64::from(!self.chance(12))
+    }
+
+    /// Type, step and issue life that fit each other.
+    fn goods(&mut self) -> (u64, u64, u64) {
+        let goods = self.within(1, 9);
+        match goods {
+            1 | 7 | 8 | 9 => (goods, 0, 0),
+            _ => (goods, self.within(0, 6), self.days()),
+        }
+    }
+
+    /// Residual and original term that fit each other.
+    fn cover(&mut self) -> (u64, u64) {
+        let (one, other) = (self.days(), self.days());
+        (one.min(other), one.max(other))
+    }
+
+    pub fn terms(&mut self) -> Terms {
+        let class = self.within(1, 4);
+        let step = if class == 4 { 0 } else { self.within(0, 6) };
+        let (lent_goods, lent_step, lent_life) = self.goods();
+        Terms {
+            amount: self.amount(),
+            class,
+            step,
+            currency: self.currency(),
+            kind: self.within(1, 3),
+            interval: self.interval(),
+            residual: self.days(),
+            lent_goods,
+            lent_step,
+            lent_life,
+        }
+    }
+
+    pub fn collateral(&mut self) -> Collateral {
+        let (goods, step, life) = self.goods();
+        let (residual, original) = self.cover();
+        Collateral {
+            amount: self.amount(),
+            goods,
+            step,
+            life,
+            currency: self.currency(),
+            residual,
+            original,
+            lawful: self.met(),
+            unrelated: self.met(),
+            unreflected: self.met(),
+            listed: self.within(0, 1),
+        }
+    }
+
+    pub fn guarantee(&mut self) -> Guarantee {
+        let (residual, original) = self.cover();
+        Guarantee {
+            amount: self.amount(),
+            class: self.within(1, 3),
+            step: self.within(0, 6),
+            currency: self.currency(),
+            residual,
+            original,
+            lawful: self.met(),
+            direct: self.met(),
+            unreflected: self.met(),
+        }
+    }
+
+    /// An accepted deal.
+    pub fn deal(&mut self) -> Record {
+        let terms = self.terms();
+        let most = self.pick(&[2, 6, 16]);
+        let collateral: Vec<_> = (0..self.within(0, most))
+            .map(|_| self.collateral())
+            .collect();
+        let guarantees: Vec<_> = (0..self.within(0, most))
+            .map(|_| self.guarantee())
+            .collect();
+        deal(terms, &collateral, &guarantees)
+    }
+
+    /// Sets one number to one that is likely to be refused.
+    pub fn spoil(&mut self, numbers: &mut [u64]) {
+        let place = (self.any() % numbers.len() as u64) as usize;
+        numbers[place] = self.pick(&[
+            0,
+            1,
+            2,
+            3,
+            4,
+            5,
+            7,
+            10,
+            251,
+            1_000,
+            36_001,
+            1_000_000_000_001,
+            9_999_999_999_999,
+        ]);
+    }
+}

@@ -1,0 +1,467 @@
+//! What must hold of every deal and every book, on random ones.
+
+mod common;
+
+use common::*;
+use reference::{
+    add_collateral, add_guarantee, answer_book, deals, open, printed, printed_reports, report,
+    BookReply, Collateral, DealRead, Guarantee, Outcome, Record, Report, Terms,
+};
+
+const ROUNDS: u64 = 20_000;
+
+fn value(outcome: Outcome) -> u64 {
+    match outcome {
+        Outcome::Valued(value) => value,
+        Outcome::LeftOut(_) => 0,
+    }
+}
+
+/// Risk weights as the paper prints them, unrated in front.
+fn weight(class: u64, step: u64) -> u64 {
+    match class {
+        1 => [100, 0, 20, 50, 100, 100, 150][step as usize],
+        2 => [50, 20, 50, 50, 100, 100, 150][step as usize],
+        3 => [100, 20, 50, 100, 100, 150, 150][step as usize],
+        _ => 75,
+    }
+}
+
+#[test]
+fn portions_and_rest_make_up_the_exposure() {
+    let mut random = Random::new(1);
+    for _ in 0..ROUNDS {
+        let record = random.deal();
+        let report = report(&record);
+        let covered: u64 = report.guarantees.iter().map(|(_, portion)| portion).sum();
+        assert_eq!(report.refusal, 0);
+        assert_eq!(covered + report.rest, report.exposure);
+        assert!(report.exposure <= record.terms.amount);
+        for (outcome, portion) in report.guarantees {
+            assert!(portion <= value(outcome));
+        }
+    }
+}
+
+#[test]
+fn no_value_exceeds_its_amount_and_grounds_are_known() {
+    let mut random = Random::new(2);
+    for _ in 0..ROUNDS {
+        let record = random.deal();
+        let report = report(&record);
+        for (item, outcome) in record.collateral.iter().zip(report.collateral) {
+            match outcome {
+                Outcome::Valued(value) => assert!(value <= item.amount),
+                Outcome::LeftOut(ground) => assert!((21..=26).contains(&ground)),
+            }
+        }
+        for (item, (outcome, _)) in record.guarantees.iter().zip(report.guarantees) {
+            match outcome {
+                Outcome::Valued(value) => assert!(value <= item.amount),
+                Outcome::LeftOut(ground) => {
+                    assert!([21, 23, 25, 26, 27, 28, 29].contains(&ground));
+                }
+            }
+        }
+    }
+}
+
+#[test]
+fn places_past_a_count_hold_zeros_and_have_no_effect() {
+    let mut random = Random::new(3);
+    for _ in 0..ROUNDS {
+        let record = random.deal();
+        let first = report(&record);
+        let mut filled = record.clone();
+        for place in &mut filled.collateral[record.collateral_count as usize..] {
+            *place = Collateral::from([random.any(); 11]);
+        }
+        for place in &mut filled.guarantees[record.guarantee_count as usize..] {
+            *place = Guarantee::from([random.any(); 9]);
+        }
+        assert_eq!(report(&filled), first);
+        for outcome in &first.collateral[record.collateral_count as usize..] {
+            assert_eq!(*outcome, Outcome::Valued(0));
+        }
+        for place in &first.guarantees[record.guarantee_count as usize..] {
+            assert_eq!(*place, (Outcome::Valued(0), 0));
+        }
+    }
+}
+
+/// Covers by picking the least weight left, again and again.
+fn cover_by_picking(record: &Record, report: &Report) -> ([u64; 16], u64) {
+    let mut portions = [0; 16];
+    let mut rest = report.exposure;
+    let mut open: Vec<usize> = (0..16)
+        .filter(|&place| matches!(report.guarantees[place].0, Outcome::Valued(1..)))
+        .collect();
+    let weight_at = |place: usize| {
+        let item = &record.guarantees[place];
+        weight(item.class, item.step)
+    };
+    while let Some(&next) = open.iter().min_by_key(|&&place| (weight_at(place), place)) {
+        open.retain(|&place| place != next);
+        portions[next] = rest.min(value(report.guarantees[next].0));
+        rest -= portions[next];
+    }
+    let weighted: u64 = (0..16)
+        .filter(|&place| portions[place] > 0)
+        .map(|place| portions[place] * weight_at(place))
+        .sum();
+    let counterparty = weight(record.terms.class, record.terms.step);
+    (portions, (weighted + rest * counterparty).div_ceil(100))
+}
+
+#[test]
+fn cover_is_that_of_picking_the_least_weight() {
+    let mut random = Random::new(4);
+    for _ in 0..ROUNDS {
+        let record = random.deal();
+        let report = report(&record);
+        let (portions, weighted) = cover_by_picking(&record, &report);
+        assert_eq!(report.guarantees.map(|(_, portion)| portion), portions);
+        assert_eq!(report.weighted, weighted);
+    }
+}
+
+#[test]
+fn protection_and_more_of_it_never_raise_the_weighted_amount() {
+    let mut random = Random::new(5);
+    for _ in 0..ROUNDS {
+        let mut record = random.deal();
+        let bare = report(&deal(record.terms, &[], &[]));
+        let before = report(&record);
+        assert!(before.weighted <= bare.weighted);
+        add_collateral(&mut record, random.collateral());
+        add_guarantee(&mut record, random.guarantee());
+        record.terms.interval = random.within(1, record.terms.interval);
+        assert!(report(&record).weighted <= before.weighted);
+    }
+}
+
+#[test]
+fn refused_adds_leave_the_record_unchanged() {
+    let mut random = Random::new(6);
+    let mut refused = 0;
+    for _ in 0..ROUNDS {
+        let before = random.deal();
+        let mut record = before.clone();
+        let mut fields = collateral_fields(&random.collateral());
+        random.spoil(&mut fields);
+        if add_collateral(&mut record, fields.into()) != 0 {
+            assert_eq!(record, before);
+            refused += 1;
+        }
+        let mut record = before.clone();
+        let mut fields = guarantee_fields(&random.guarantee());
+        random.spoil(&mut fields);
+        if add_guarantee(&mut record, fields.into()) != 0 {
+            assert_eq!(record, before);
+            refused += 1;
+        }
+    }
+    assert!(refused > ROUNDS / 4);
+}
+
+/// The table of the paper: rows of steps, bands of life, columns of issuers.
+const DEBT: [[[u64; 3]; 3]; 2] = [
+    [
+        [5_000, 10_000, 20_000],
+        [20_000, 40_000, 80_000],
+        [40_000, 80_000, 160_000],
+    ],
+    [
+        [10_000, 20_000, 40_000],
+        [30_000, 60_000, 120_000],
+        [60_000, 120_000, 240_000],
+    ],
+];
+
+fn table_haircut(goods: u64, step: u64, life: u64) -> u64 {
+    let row = usize::from(step != 1);
+    let band = usize::from(life > 360) + usize::from(life > 1_800);
+    match goods {
+        1 => 0,
+        2 if step == 4 => 150_000,
+        2 => DEBT[row][band][0],
+        3 | 4 => DEBT[row][band][1],
+        5 => DEBT[row][band][2],
+        7 | 9 => 150_000,
+        _ => 250_000,
+    }
+}
+
+/// The least h with 10 × h × h at or above H × H × n, by halving.
+fn scaled(haircut: u64, n: u64) -> u64 {
+    let (mut low, mut high) = (0, 2_000_000);
+    while low < high {
+        let middle = (low + high) / 2;
+        if 10 * middle * middle >= haircut * haircut * n {
+            high = middle;
+        } else {
+            low = middle + 1;
+        }
+    }
+    low
+}
+
+/// Steps 1 and 2 of the way from items to the weighted amount.
+fn value_by_the_steps(amount: u64, haircuts: u64, residual: u64, deal_term: u64) -> u64 {
+    let value = amount * (1_000_000 - haircuts.min(1_000_000)) / 1_000_000;
+    if residual >= deal_term {
+        return value;
+    }
+    let longest = deal_term.min(1_800);
+    value * (residual.min(longest) - 90) / (longest - 90)
+}
+
+#[test]
+fn values_are_those_of_the_steps() {
+    let mut random = Random::new(11);
+    for _ in 0..ROUNDS {
+        let record = random.deal();
+        let report = report(&record);
+        let terms = &record.terms;
+        let n = terms.interval + [5, 10, 20][terms.kind as usize - 1] - 1;
+        let mut total = 0;
+        for (item, outcome) in record.collateral.iter().zip(report.collateral) {
+            if let (Outcome::Valued(value), 1..) = (outcome, item.goods) {
+                let own = scaled(table_haircut(item.goods, item.step, item.life), n);
+                let foreign = u64::from(item.currency != terms.currency);
+                let haircuts = own + foreign * scaled(80_000, n);
+                let expected =
+                    value_by_the_steps(item.amount, haircuts, item.residual, terms.residual);
+                assert_eq!(value, expected);
+                total += value;
+            }
+        }
+        let eligible = match terms.lent_goods {
+            2 => (1..=4).contains(&terms.lent_step),
+            3..=5 => (1..=3).contains(&terms.lent_step),
+            goods => goods != 6,
+        };
+        let table = table_haircut(terms.lent_goods, terms.lent_step, terms.lent_life);
+        let haircut = scaled(if eligible { table } else { 250_000 }, n);
+        let raised = (terms.amount * (1_000_000 + haircut)).div_ceil(1_000_000);
+        let exposure = raised.saturating_sub(total).min(terms.amount);
+        assert_eq!(report.exposure, exposure);
+        for (item, (outcome, _)) in record.guarantees.iter().zip(report.guarantees) {
+            if let (Outcome::Valued(value), 1..) = (outcome, item.class) {
+                let foreign = u64::from(item.currency != terms.currency);
+                let haircut = foreign * scaled(80_000, terms.interval + 9);
+                let expected =
+                    value_by_the_steps(item.amount, haircut, item.residual, terms.residual);
+                assert_eq!(value, expected);
+            }
+        }
+    }
+}
+
+/// Any number, small ones and sound ones among them.
+fn wild(random: &mut Random) -> u64 {
+    match random.within(0, 3) {
+        0 => random.any(),
+        1 => random.within(0, 20),
+        2 => random.pick(&[0, 1, 16, 17, 978, 36_000, u64::MAX, 1 << 32, 1 << 63]),
+        _ => random.days(),
+    }
+}
+
+#[test]
+fn wild_records_never_panic_and_answer_40_alike() {
+    let mut random = Random::new(7);
+    let mut accepted = 0;
+    for _ in 0..ROUNDS {
+        let mut record = random.deal();
+        for _ in 0..random.within(0, 3) {
+            let number = wild(&mut random);
+            let place = random.within(0, 15) as usize;
+            match random.within(0, 6) {
+                0 => record.collateral_count = number,
+                1 => record.guarantee_count = number,
+                2 => record.terms.amount = number,
+                3 => record.terms.interval = number,
+                4 => record.collateral[place].residual = number,
+                5 => record.guarantees[place].original = number,
+                _ => record.terms.lent_goods = number,
+            }
+        }
+        let reply = report(&record);
+        let before = record.clone();
+        let added = add_collateral(&mut record, CASH);
+        assert_eq!(reply.refusal == 40, added == 40);
+        if reply.refusal == 40 {
+            assert_eq!(record, before);
+            assert_eq!(reply.weighted + reply.exposure + reply.rest, 0);
+        } else {
+            accepted += 1;
+        }
+    }
+    assert!(accepted > ROUNDS / 20);
+}
+
+/// A line of a random book: mostly sound, at times spoilt or cut.
+fn random_line(random: &mut Random, first: bool) -> String {
+    let letter = if first { 0 } else { random.within(0, 5) };
+    let mut text = match letter {
+        0 => {
+            let mut fields = terms_fields(&random.terms());
+            if random.chance(8) {
+                random.spoil(&mut fields);
+            }
+            line('D', &fields)
+        }
+        1..=3 => {
+            let mut fields = collateral_fields(&random.collateral());
+            if random.chance(20) {
+                random.spoil(&mut fields);
+            }
+            line('C', &fields)
+        }
+        _ => {
+            let mut fields = guarantee_fields(&random.guarantee());
+            if random.chance(20) {
+                random.spoil(&mut fields);
+            }
+            line('G', &fields)
+        }
+    };
+    if random.chance(30) {
+        let place = random.within(2, text.len() as u64 - 1) as usize;
+        match random.within(0, 2) {
+            0 => text.insert(place, '0'),
+            1 => text.insert(place, '\t'),
+            _ => {
+                text.remove(place);
+            }
+        }
+    }
+    text
+}
+
+fn random_book(random: &mut Random) -> Vec<u8> {
+    let lines = random.within(0, 60);
+    let body: String = (0..lines)
+        .map(|place| random_line(random, place == 0))
+        .collect();
+    format!("CRM\t1\n{body}").into_bytes()
+}
+
+/// Reads a field the plain way.
+fn parsed(field: &str) -> Option<u64> {
+    let number: u64 = field.parse().ok()?;
+    (field.len() <= 13 && field == number.to_string()).then_some(number)
+}
+
+fn fields<const N: usize>(line: &str, letter: &str) -> Option<[u64; N]> {
+    let fields: Vec<&str> = line.strip_suffix('\n')?.split('\t').collect();
+    let numbers: Option<Vec<u64>> = fields[1..].iter().map(|field| parsed(field)).collect();
+    (fields[0] == letter).then_some(())?;
+    numbers?.try_into().ok()
+}
+
+fn add_line(record: &mut Record, line: &str) -> u64 {
+    if let Some(numbers) = fields::<11>(line, "C") {
+        add_collateral(record, numbers.into())
+    } else if let Some(numbers) = fields::<9>(line, "G") {
+        add_guarantee(record, numbers.into())
+    } else {
+        11
+    }
+}
+
+/// Goes line by line through opening, adding and reporting.
+fn line_by_line(book: &[u8]) -> Vec<u64> {
+    let text = std::str::from_utf8(book).expect("plain text");
+    let mut found: Vec<Result<Record, (u64, u64)>> = Vec::new();
+    for (number, line) in (1..).zip(text.split_inclusive('\n')).skip(1) {
+        if line.starts_with("D\t") {
+            let terms = fields::<10>(line, "D").map(Terms::from).ok_or(11);
+            found.push(terms.and_then(open).map_err(|refusal| (refusal, number)));
+        } else if let Some(deal @ Ok(_)) = found.last_mut() {
+            let refusal = deal.as_mut().map_or(0, |record| add_line(record, line));
+            if refusal != 0 {
+                *deal = Err((refusal, number));
+            }
+        }
+    }
+    (1..)
+        .zip(found)
+        .flat_map(|(serial, deal)| match deal {
+            Ok(record) => {
+                let report = report(&record);
+                [serial, report.refusal, report.exposure, report.weighted]
+            }
+            Err((refusal, line)) => [serial, refusal, line, 0],
+        })
+        .collect()
+}
+
+#[test]
+fn answering_a_book_is_going_through_it_line_by_line() {
+    let mut random = Random::new(8);
+    let (mut accepted, mut refused) = (0, 0);
+    for _ in 0..3_000 {
+        let book = random_book(&mut random);
+        let expected = line_by_line(&book);
+        let mut results = vec![77; expected.len() + 3];
+        let reply = answer_book(&book, &mut results);
+        let count = expected.len() / 4;
+        assert_eq!(
+            reply,
+            BookReply {
+                refusal: 0,
+                deals: count
+            }
+        );
+        assert_eq!(results[..4 * count], expected);
+        assert_eq!(results[4 * count..], [77; 3]);
+        accepted += expected.chunks(4).filter(|four| four[1] == 0).count();
+        refused += expected.chunks(4).filter(|four| four[1] != 0).count();
+    }
+    assert!(accepted > 3_000 && refused > 3_000, "{accepted} {refused}");
+}
+
+#[test]
+fn deals_and_answers_agree() {
+    let mut random = Random::new(9);
+    for _ in 0..500 {
+        let book = random_book(&mut random);
+        let mut results = vec![0; 400];
+        let count = answer_book(&book, &mut results).deals;
+        let read = deals(&book).expect("accepted book");
+        assert_eq!(read.len(), count);
+        for (deal, four) in read.iter().zip(results.chunks(4)) {
+            match deal {
+                DealRead::Accepted(record) => {
+                    let report = report(record);
+                    assert_eq!([0, report.exposure, report.weighted], four[1..]);
+                }
+                DealRead::Refused { refusal, line } => {
+                    assert_eq!([*refusal, *line, 0], four[1..]);
+                }
+            }
+        }
+    }
+}
+
+#[test]
+fn any_bytes_are_answered() {
+    let mut random = Random::new(10);
+    let alphabet = b"DCG\t\t\t\n\n0123456789\r \0\xff";
+    for _ in 0..5_000 {
+        let mut book = b"CRM\t1\nD\t".to_vec();
+        book.truncate(random.pick(&[0, 6, 8, 8, 8]) as usize);
+        for _ in 0..random.within(0, 300) {
+            book.push(alphabet[random.within(0, alphabet.len() as u64 - 1) as usize]);
+        }
+        let mut results = vec![5; random.within(0, 40) as usize];
+        let reply = answer_book(&book, &mut results);
+        assert!(4 * reply.deals <= results.len());
+        assert!(results[4 * reply.deals..].iter().all(|&number| number == 5));
+        for text in [printed(&book), printed_reports(&book)] {
+            assert_eq!(text.last(), Some(&b'\n'));
+        }
+    }
+}
