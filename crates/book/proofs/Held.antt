@@ -10,7 +10,7 @@ use lib.ListN.{length, drop, replicate}
 use Rattle.base.proofs.Choice.{if-true}
 use Rattle.text.specs.Text.{firstLine, linesOf}
 use Rattle.deal.specs.Terms.{termsRefusal}
-use Rattle.deal.specs.Items.{appendCollateral, appendGuarantee, listLimit}
+use Rattle.deal.specs.Items.{appendCollateral, appendGuarantee, collateralRefusal, guaranteeRefusal, listLimit}
 use Rattle.deal.specs.Deals.{accepted, openedDeal, withoutProtection, addCollateralRefusal, addGuaranteeRefusal, withCollateral, withGuarantee}
 use Rattle.deal.specs.declared.terms.Terms.{Terms}
 use Rattle.deal.specs.declared.collateral.Collateral.{Collateral}
@@ -41,20 +41,22 @@ module _ (t : Terms) (cs : CollateralList) (gs : GuaranteeList) (fits : accepted
   not-refused : (said : Line) → refusalOf cs gs said ≡ 0 → lineRefusal (dealOf t cs gs) said ≡ 0
   not-refused said e = refusal-counts (dealOf t cs gs) said fits ∙ e
 
-  -- an item that is not refused goes into the next place
+  -- an item that is not refused has a place, is allowed, and goes there
   pub collateral-put : (c : Collateral) → refusalOf cs gs (CollateralLine c) ≡ 0 →
-      (cs .count < listLimit) × (dealOf t (appendCollateral cs c) gs ≡ withLine (dealOf t cs gs) (CollateralLine c))
+      (cs .count < listLimit) × (collateralRefusal c ≡ 0) × (dealOf t (appendCollateral cs c) gs ≡ withLine (dealOf t cs gs) (CollateralLine c))
   unfolding lineRefusal withLine
   collateral-put c e =
       let r = not-refused (CollateralLine c) e in
-      (collateral-fits (dealOf t cs gs) c r .1, sym (collateral-added (dealOf t cs gs) c r))
+      let f = collateral-fits (dealOf t cs gs) c r in
+      (f .1, f .2, sym (collateral-added (dealOf t cs gs) c r))
 
   pub guarantee-put : (g : Guarantee) → refusalOf cs gs (GuaranteeLine g) ≡ 0 →
-      (gs .count < listLimit) × (dealOf t cs (appendGuarantee gs g) ≡ withLine (dealOf t cs gs) (GuaranteeLine g))
+      (gs .count < listLimit) × (guaranteeRefusal g ≡ 0) × (dealOf t cs (appendGuarantee gs g) ≡ withLine (dealOf t cs gs) (GuaranteeLine g))
   unfolding lineRefusal withLine
   guarantee-put g e =
       let r = not-refused (GuaranteeLine g) e in
-      (guarantee-fits (dealOf t cs gs) g r .1, sym (guarantee-added (dealOf t cs gs) g r))
+      let f = guarantee-fits (dealOf t cs gs) g r in
+      (f .1, f .2, sym (guarantee-added (dealOf t cs gs) g r))
 
 module _ (text : List ℕ) (start number : ℕ) (t : Terms) where
   -- the answer from its first further line on

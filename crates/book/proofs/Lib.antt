@@ -6,3 +6,4 @@ pub mod Grouping
 pub mod Held
 pub mod Passing
 pub mod Refusing
+pub mod Summed

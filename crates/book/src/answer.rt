@@ -13,6 +13,7 @@ use crate::reply::HEADER_BYTES;
 use crate::reply::Reply;
 use crate::reply::reply_to;
 use crate::results::put_answer;
+use relief::roots::Roots;
 
 // The answers to the deals among a book's lines, from the front of the list.
 fn answer_deals(lines: &[u8], results: &mut [u64])
@@ -21,9 +22,11 @@ fn answer_deals(lines: &[u8], results: &mut [u64])
 {
     let mut at: usize = 0;
     let mut number: u64 = 2;
+    let mut roots = Roots::NONE;
     let mut deals: usize = 0;
     while at < lines.len() {
-        let answer = answer_deal(&lines[at..], number);
+        let answered = answer_deal(&lines[at..], number, roots);
+        let answer = answered.answer;
         put_answer(
             results,
             deals * 4,
@@ -34,6 +37,7 @@ fn answer_deals(lines: &[u8], results: &mut [u64])
         );
         at += answer.end;
         number = answer.next;
+        roots = answered.roots;
         deals += 1;
     }
 }

@@ -7,6 +7,7 @@ ghost use lib.ListN.{drop, length};
 ghost use Rattle.text.specs.Text.{linesOf};
 ghost use Rattle.deal.specs.Deals.{openedDeal};
 ghost use Rattle.deal.specs.Terms.{termsRefusal};
+ghost use Rattle.relief.specs.Working.{BothRooted, RootsOf};
 ghost use Rattle.book.specs.Answers.{dealAnswer, linesAnswer};
 ghost use Rattle.book.specs.Deals.{opensDeal, ownLines};
 ghost use Rattle.book.specs.Working.{DealRead, LinesRead, firstDeal, ownFirst};
@@ -14,14 +15,15 @@ use crate::deals::opens_deal;
 use crate::refusal::further_refusal;
 use crate::refusal::opening_refusal;
 use crate::refusal::terms_said;
-use deal::collateral::Collateral;
-use deal::collateral::CollateralList;
-use deal::guarantee::Guarantee;
-use deal::guarantee::GuaranteeList;
+use cover::protection::Protection;
 use deal::terms::Terms;
 use lines::line::Line;
 use lines::line::read_line;
-use relief::report::full_report;
+use relief::collateral::item_value;
+use relief::deal_amounts::amounts_of;
+use relief::guarantee::item_protection;
+use relief::roots::Roots;
+use tables::weights::counterparty_weight;
 use text::line_end;
 
 pub struct DealAnswer {
@@ -32,6 +34,12 @@ pub struct DealAnswer {
     // Where the deal's lines end, and the number of the line there.
     pub end: usize,
     pub next: u64,
+}
+
+// A deal's answer, and the roots of its periods, which the next deal may share.
+pub struct Answered {
+    pub answer: DealAnswer,
+    pub roots: Roots,
 }
 
 // Whether a line starts here that opens no other deal.
@@ -66,36 +74,38 @@ fn refused(text: &[u8], start: usize, number: u64, refusal: u64) -> DealAnswer
     }
 }
 
-// A deal opened on these terms, from its first further line on, which has this number. Items are put into their places as they are
-// read, and the record is not copied.
-fn opened(text: &[u8], start: usize, number: u64, terms: Terms) -> DealAnswer
+// A deal opened on these terms, from its first further line on, which has this number. Each item is valued as it is read; no record of
+// the deal is kept.
+fn opened(text: &[u8], start: usize, number: u64, terms: Terms, roots: Roots) -> DealAnswer
     requires { ⌜ (termsRefusal terms ≡ 0) × ((start ≤ length (now text)) × (number + length (now text) ≤ 65536 + start)) ⌝ }
+    requires { ⌜ RootsOf terms roots ⌝ }
     ensures { λ r. ⌜ LinesRead (now (text .entry)) start number (r .end) (r .next) ⌝ }
     ensures { λ r. ⌜ linesAnswer number (openedDeal terms) (ownLines (linesOf (drop start (now (text .entry))))) ≡ r .refusal ∷ r .figure ∷ r .weighted ∷ [] ⌝ }
 {
-    let items = [Collateral::ZERO; 16];
-    let mut collateral = CollateralList { items, count: 0 };
-    let items = [Guarantee::ZERO; 16];
-    let mut guarantees = GuaranteeList { items, count: 0 };
+    let counterparty = terms.counterparty;
+    let limit = counterparty_weight(counterparty.class, counterparty.step);
+    let mut protections = [Protection::NONE; 16];
+    let mut guarantees: usize = 0;
+    let mut collateral: usize = 0;
+    let mut total: u64 = 0;
     let mut at = start;
     let mut next = number;
     while own_line(text, at) {
         let end = line_end(text, at);
         let line = read_line(&text[at..end]);
-        let refusal = further_refusal(line, collateral.count, guarantees.count);
+        let refusal = further_refusal(line, collateral, guarantees);
         if refusal != 0 {
             return refused(text, end, next, refusal);
         }
         match line {
             Line::CollateralLine(item) => {
-                let place = collateral.count;
-                collateral.items[place] = item;
-                collateral.count = place + 1;
+                total += item_value(terms, item, roots.deal);
+                collateral += 1;
             }
             Line::GuaranteeLine(item) => {
-                let place = guarantees.count;
-                guarantees.items[place] = item;
-                guarantees.count = place + 1;
+                let protection = item_protection(terms, item, limit, roots.guarantees);
+                protections[guarantees] = protection;
+                guarantees += 1;
             }
             Line::DealLine(_) => {}
             Line::Malformed => {}
@@ -103,26 +113,32 @@ fn opened(text: &[u8], start: usize, number: u64, terms: Terms) -> DealAnswer
         at = end;
         next += 1;
     }
-    let report = full_report(terms, collateral, guarantees);
+    let amounts = amounts_of(terms, roots.deal, total, protections, guarantees);
     DealAnswer {
         refusal: 0,
-        figure: report.exposure,
-        weighted: report.weighted,
+        figure: amounts.exposure,
+        weighted: amounts.weighted,
         end: at,
         next,
     }
 }
 
-// The answer to the deal that a text starts with.
-pub fn answer_deal(text: &[u8], number: u64) -> DealAnswer
+// The answer to the deal that a text starts with, given some roots.
+pub fn answer_deal(text: &[u8], number: u64, roots: Roots) -> Answered
     requires { ⌜ (opensDeal (now text) ≡ true) × (number + length (now text) ≤ 65536) ⌝ }
-    ensures { λ r. ⌜ DealRead number (now (text .entry)) (r .end) (r .next) × (dealAnswer (firstDeal number (now (text .entry))) ≡ r .refusal ∷ r .figure ∷ r .weighted ∷ []) ⌝ }
+    requires { ⌜ BothRooted roots ⌝ }
+    ensures { λ r. ⌜ DealRead number (now (text .entry)) (r .answer .end) (r .answer .next) × (dealAnswer (firstDeal number (now (text .entry))) ≡ r .answer .refusal ∷ r .answer .figure ∷ r .answer .weighted ∷ []) ⌝ }
+    ensures { λ r. ⌜ BothRooted (r .roots) ⌝ }
 {
     let end = line_end(text, 0);
     let line = read_line(&text[..end]);
     let refusal = opening_refusal(line);
     if refusal != 0 {
-        return refused(text, end, number, refusal);
+        let answer = refused(text, end, number, refusal);
+        return Answered { answer, roots };
     }
-    opened(text, end, number + 1, terms_said(line))
+    let terms = terms_said(line);
+    let roots = roots.for_terms(terms);
+    let answer = opened(text, end, number + 1, terms, roots);
+    Answered { answer, roots }
 }

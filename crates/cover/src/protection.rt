@@ -7,6 +7,14 @@ pub struct Protection {
     pub weight: u64,
 }
 
+impl Protection {
+    // A place with nothing in it.
+    pub const NONE: Protection = Protection {
+        value: 0,
+        weight: 0,
+    };
+}
+
 // What protection leaves of an exposure.
 pub struct Cover {
     // Portions in order of adding, 0 in places past the last.

@@ -53,6 +53,10 @@ module _ (table : Table) (d : Deal) where
   unfolding fullReport
   weighted-of e = ap (λ r. r .weighted) (report-accepted e)
 
+  pub exposure-of : accepted d ≡ true → reportUnder table d .exposure ≡ exposureAfter table (d .terms) (countedCollateral (d .collateral))
+  unfolding fullReport
+  exposure-of e = ap (λ r. r .exposure) (report-accepted e)
+
   -- E* is never above the deal's amount
   pub reported-exposure-bound : reportUnder table d .exposure ≤ d .terms .amount
   unfolding fullReport

@@ -5,10 +5,11 @@ ghost use Prim.Native.Nat.{_≤_};
 ghost use Rattle.deal.specs.Items.{collateralListAllowed, collateralRefusal, countedCollateral, listLimit};
 ghost use Rattle.base.specs.Places.{inPlaces};
 ghost use Rattle.scaling.specs.Period.{holdingPeriod};
-ghost use Rattle.scaling.specs.Shared.{Right};
+ghost use Rattle.scaling.specs.Root.{Rooted};
 ghost use Rattle.tables.specs.Table.{table2019};
 ghost use Rattle.relief.specs.Recognition.{collateralOutcome, cutOf};
 ghost use Rattle.relief.specs.Exposure.{collateralTotal};
+ghost use Rattle.relief.specs.Outcomes.{outcomeValue};
 ghost use Rattle.relief.specs.Report.{collateralReports, noCollateral};
 use crate::ground::Ground;
 use crate::maturity::short_original;
@@ -17,7 +18,7 @@ use crate::outcome::Outcome;
 use deal::collateral::Collateral;
 use deal::collateral::CollateralList;
 use deal::terms::Terms;
-use scaling::shared::ScaledHaircuts;
+use scaling::root::Root;
 use tables::eligibility::eligible;
 use tables::haircuts::haircut;
 use valuation::haircuts::collateral_cut;
@@ -27,17 +28,10 @@ pub struct CollateralReport {
     pub outcome: Outcome,
 }
 
-// One item's outcome, and the haircuts known after it.
-pub struct CollateralOutcome {
-    pub outcome: Outcome,
-    pub known: ScaledHaircuts,
-}
-
-// What all items come to, in order of adding, and the haircuts known after them.
+// What all items come to, in order of adding.
 pub struct CollateralValues {
     pub reports: [CollateralReport; 16],
     pub total: u64,
-    pub known: ScaledHaircuts,
 }
 
 // The first ground that applies, or the value after these haircuts.
@@ -67,27 +61,30 @@ fn outcome_after_cut(terms: Terms, item: Collateral, cut: u64) -> Outcome
     Outcome::Valued(recognised(item.amount, cut, item.residual, terms.residual))
 }
 
-// One item of collateral.
-fn value_item(terms: Terms, item: Collateral, known: ScaledHaircuts) -> CollateralOutcome
-    requires { ⌜ (item .amount ≤ 1000000000000) × ((known .period ≡ holdingPeriod (terms .kind) (terms .interval)) × Right known) ⌝ }
-    ensures { λ r. ⌜ (r .outcome ≡ collateralOutcome table2019 terms item) × ((r .known .period ≡ known .period) × Right (r .known)) ⌝ }
+// One item of collateral, under the root of the deal's period.
+pub fn value_item(terms: Terms, item: Collateral, root: Root) -> Outcome
+    requires { ⌜ (item .amount ≤ 1000000000000) × ((root .period ≡ holdingPeriod (terms .kind) (terms .interval)) × Rooted root) ⌝ }
+    ensures { λ r. ⌜ r ≡ collateralOutcome table2019 terms item ⌝ }
 {
     let asset = item.asset;
     let own = haircut(asset.goods, asset.step, asset.life);
-    let cut = collateral_cut(known, own, item.currency, terms.currency);
-    let outcome = outcome_after_cut(terms, item, cut.haircut);
-    let known = cut.known;
-    CollateralOutcome { outcome, known }
+    let cut = collateral_cut(root, own, item.currency, terms.currency);
+    outcome_after_cut(terms, item, cut)
+}
+
+// What it is worth; nothing where it is left out.
+pub fn item_value(terms: Terms, item: Collateral, root: Root) -> u64
+    requires { ⌜ (item .amount ≤ 1000000000000) × ((root .period ≡ holdingPeriod (terms .kind) (terms .interval)) × Rooted root) ⌝ }
+    ensures { λ r. ⌜ r ≡ outcomeValue (collateralOutcome table2019 terms item) ⌝ }
+{
+    let outcome = value_item(terms, item, root);
+    outcome.value()
 }
 
 // Every item of a deal's collateral.
-pub fn value_collateral(
-    terms: Terms,
-    list: CollateralList,
-    known: ScaledHaircuts,
-) -> CollateralValues
-    requires { ⌜ (collateralListAllowed list ≡ true) × ((known .period ≡ holdingPeriod (terms .kind) (terms .interval)) × Right known) ⌝ }
-    ensures { λ r. ⌜ (r .reports ≡ inPlaces listLimit noCollateral (collateralReports table2019 terms (countedCollateral list))) × ((r .total ≡ collateralTotal table2019 terms (countedCollateral list)) × ((r .known .period ≡ known .period) × Right (r .known))) ⌝ }
+pub fn value_collateral(terms: Terms, list: CollateralList, root: Root) -> CollateralValues
+    requires { ⌜ (collateralListAllowed list ≡ true) × ((root .period ≡ holdingPeriod (terms .kind) (terms .interval)) × Rooted root) ⌝ }
+    ensures { λ r. ⌜ (r .reports ≡ inPlaces listLimit noCollateral (collateralReports table2019 terms (countedCollateral list))) × (r .total ≡ collateralTotal table2019 terms (countedCollateral list)) ⌝ }
 {
     let items = list.items;
     let count = list.count;
@@ -96,20 +93,13 @@ pub fn value_collateral(
     };
     let mut reports = [none; 16];
     let mut total: u64 = 0;
-    let mut known = known;
     let mut i: usize = 0;
     while i < count {
         let item = items[i];
-        let valued = value_item(terms, item, known);
-        let outcome = valued.outcome;
+        let outcome = value_item(terms, item, root);
         reports[i] = CollateralReport { outcome };
         total += outcome.value();
-        known = valued.known;
         i += 1;
     }
-    CollateralValues {
-        reports,
-        total,
-        known,
-    }
+    CollateralValues { reports, total }
 }

@@ -3,23 +3,22 @@ ghost use mathlib.Core.Path.{_≡_};
 ghost use Prim.Native.Nat.{min, _-_};
 ghost use Rattle.deal.specs.Terms.{termsRefusal};
 ghost use Rattle.scaling.specs.Period.{holdingPeriod};
-ghost use Rattle.scaling.specs.Shared.{Right};
+ghost use Rattle.scaling.specs.Root.{Rooted};
 ghost use Rattle.tables.specs.Table.{table2019};
 ghost use Rattle.relief.specs.Exposure.{lentCut, raisedExposure};
 use base::smaller;
 use deal::terms::Terms;
-use scaling::shared::Scaled;
-use scaling::shared::ScaledHaircuts;
+use scaling::root::Root;
 use tables::haircuts::lent_haircut;
 use valuation::exposure::raised;
 
 // The haircut of the goods lent, over the deal's holding period.
-pub fn lent_cut(terms: Terms, known: ScaledHaircuts) -> Scaled
-    requires { ⌜ (known .period ≡ holdingPeriod (terms .kind) (terms .interval)) × Right known ⌝ }
-    ensures { λ r. ⌜ (r .haircut ≡ lentCut table2019 terms) × ((r .known .period ≡ known .period) × Right (r .known)) ⌝ }
+pub fn lent_cut(terms: Terms, root: Root) -> u64
+    requires { ⌜ (root .period ≡ holdingPeriod (terms .kind) (terms .interval)) × Rooted root ⌝ }
+    ensures { λ r. ⌜ r ≡ lentCut table2019 terms ⌝ }
 {
     let lent = terms.lent;
-    known.scale(lent_haircut(lent.goods, lent.step, lent.life))
+    root.scale(lent_haircut(lent.goods, lent.step, lent.life))
 }
 
 // The exposure raised by that haircut, less the collateral's total, and never more than the deal's amount.

@@ -7,7 +7,7 @@ ghost use lib.ListN.{drop, replicate, take};
 ghost use Rattle.base.specs.Places.{inPlaces};
 ghost use Rattle.deal.specs.Items.{countedGuarantees, guaranteeListAllowed, guaranteeRefusal, listLimit};
 ghost use Rattle.scaling.specs.Period.{guaranteePeriod};
-ghost use Rattle.scaling.specs.Shared.{Right};
+ghost use Rattle.scaling.specs.Root.{Rooted};
 ghost use Rattle.tables.specs.Table.{table2019};
 ghost use Rattle.valuation.specs.Haircuts.{currencyCut};
 ghost use Rattle.relief.specs.Recognition.{counterpartyWeightOf, guaranteeOutcome, isUnratedEntity, protectionOf, providerWeightOf};
@@ -22,7 +22,7 @@ use cover::protection::Protection;
 use deal::guarantee::Guarantee;
 use deal::guarantee::GuaranteeList;
 use deal::terms::Terms;
-use scaling::shared::ScaledHaircuts;
+use scaling::root::Root;
 use tables::weights::provider_weight;
 use valuation::haircuts::currency_cut;
 use valuation::protection::recognised;
@@ -35,11 +35,10 @@ pub struct GuaranteeReport {
     pub portion: u64,
 }
 
-// One guarantee's outcome, what it covers with, and the haircuts known after it.
+// One guarantee's outcome, and what it covers with.
 pub struct GuaranteeOutcome {
     pub outcome: Outcome,
     pub protection: Protection,
-    pub known: ScaledHaircuts,
 }
 
 // What all guarantees come to, in order of adding, before they cover anything.
@@ -88,35 +87,42 @@ fn outcome_after_cut(terms: Terms, item: Guarantee, cut: u64, weight: u64, limit
     Outcome::Valued(recognised(item.amount, cut, item.residual, terms.residual))
 }
 
-// One guarantee; `limit` is the counterparty's weight.
-fn value_item(terms: Terms, item: Guarantee, limit: u64, known: ScaledHaircuts) -> GuaranteeOutcome
+// One guarantee; `limit` is the counterparty's weight, `root` that of the guarantees' period.
+pub fn value_item(terms: Terms, item: Guarantee, limit: u64, root: Root) -> GuaranteeOutcome
     requires { ⌜ (guaranteeRefusal item ≡ 0) × (limit ≡ counterpartyWeightOf table2019 terms) ⌝ }
-    requires { ⌜ (known .period ≡ guaranteePeriod (terms .interval)) × Right known ⌝ }
+    requires { ⌜ (root .period ≡ guaranteePeriod (terms .interval)) × Rooted root ⌝ }
     ensures { λ r. ⌜ (r .outcome ≡ guaranteeOutcome table2019 terms item) × (r .protection ≡ protectionOf table2019 terms item) ⌝ }
-    ensures { λ r. ⌜ (r .known .period ≡ known .period) × Right (r .known) ⌝ }
 {
     let provider = item.provider;
     let weight = provider_weight(provider.class, provider.step);
-    let cut = currency_cut(known, item.currency, terms.currency);
-    let outcome = outcome_after_cut(terms, item, cut.haircut, weight, limit);
+    let cut = currency_cut(root, item.currency, terms.currency);
+    let outcome = outcome_after_cut(terms, item, cut, weight, limit);
     let value = outcome.value();
-    let known = cut.known;
     GuaranteeOutcome {
         outcome,
         protection: Protection { value, weight },
-        known,
     }
 }
 
-// Every guarantee of a deal; `limit` is the counterparty's weight.
+// What it covers with.
+pub fn item_protection(terms: Terms, item: Guarantee, limit: u64, root: Root) -> Protection
+    requires { ⌜ (guaranteeRefusal item ≡ 0) × (limit ≡ counterpartyWeightOf table2019 terms) ⌝ }
+    requires { ⌜ (root .period ≡ guaranteePeriod (terms .interval)) × Rooted root ⌝ }
+    ensures { λ r. ⌜ r ≡ protectionOf table2019 terms item ⌝ }
+{
+    let valued = value_item(terms, item, limit, root);
+    valued.protection
+}
+
+// Every guarantee of a deal.
 pub fn value_guarantees(
     terms: Terms,
     list: GuaranteeList,
     limit: u64,
-    known: ScaledHaircuts,
+    root: Root,
 ) -> GuaranteeValues
     requires { ⌜ (guaranteeListAllowed list ≡ true) × (limit ≡ counterpartyWeightOf table2019 terms) ⌝ }
-    requires { ⌜ (known .period ≡ guaranteePeriod (terms .interval)) × Right known ⌝ }
+    requires { ⌜ (root .period ≡ guaranteePeriod (terms .interval)) × Rooted root ⌝ }
     ensures { λ r. ⌜ r .reports ≡ inPlaces listLimit noGuarantee (map (uncovered table2019 terms) (countedGuarantees list)) ⌝ }
     ensures { λ r. ⌜ r .protections ≡ inPlaces listLimit noProtection (protections table2019 terms (countedGuarantees list)) ⌝ }
 {
@@ -127,16 +133,11 @@ pub fn value_guarantees(
         portion: 0,
     };
     let mut reports = [none; 16];
-    let nothing = Protection {
-        value: 0,
-        weight: 0,
-    };
-    let mut protections = [nothing; 16];
-    let mut known = known;
+    let mut protections = [Protection::NONE; 16];
     let mut i: usize = 0;
     while i < count {
         let item = items[i];
-        let valued = value_item(terms, item, limit, known);
+        let valued = value_item(terms, item, limit, root);
         let outcome = valued.outcome;
         reports[i] = GuaranteeReport {
             outcome,
@@ -144,7 +145,6 @@ pub fn value_guarantees(
         };
         let protection = valued.protection;
         protections[i] = protection;
-        known = valued.known;
         i += 1;
     }
     GuaranteeValues {

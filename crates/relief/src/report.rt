@@ -4,29 +4,22 @@ ghost use mathlib.Core.Path.{_≡_};
 ghost use Rattle.deal.specs.Answers.{answerNumber};
 ghost use Rattle.deal.specs.Items.{collateralListAllowed, countedCollateral, countedGuarantees, guaranteeListAllowed};
 ghost use Rattle.deal.specs.Terms.{termsRefusal};
-ghost use Rattle.scaling.specs.Period.{guaranteePeriod};
-ghost use Rattle.scaling.specs.Shared.{Right};
 ghost use Rattle.tables.specs.Table.{table2019};
 ghost use Rattle.relief.specs.Report.{fullReport, refusedReport, reportOf, reportRefusal};
 use crate::collateral::CollateralReport;
 use crate::collateral::value_collateral;
-use crate::exposure::exposure_after;
-use crate::exposure::lent_cut;
+use crate::deal_amounts::amounts_of;
 use crate::guarantee::GuaranteeReport;
 use crate::guarantee::value_guarantees;
 use crate::guarantee::with_portions;
 use crate::outcome::Outcome;
-use cover::cover::cover;
+use crate::roots::Roots;
 use deal::answer::Answer;
 use deal::collateral::CollateralList;
 use deal::deal::Deal;
 use deal::guarantee::GuaranteeList;
 use deal::terms::Terms;
-use scaling::period::guarantee_period;
-use scaling::period::holding_period;
-use scaling::shared::ScaledHaircuts;
 use tables::weights::counterparty_weight;
-use valuation::exposure::weighted;
 
 pub struct Report {
     pub answer: Answer,
@@ -39,18 +32,6 @@ pub struct Report {
     pub rest: u64,
     // The risk-weighted amount.
     pub weighted: u64,
-}
-
-// Haircuts known for guarantees: they have a holding period of their own, which may be the deal's.
-fn known_for_guarantees(terms: Terms, known: ScaledHaircuts) -> ScaledHaircuts
-    requires { ⌜ (termsRefusal terms ≡ 0) × Right known ⌝ }
-    ensures { λ r. ⌜ (r .period ≡ guaranteePeriod (terms .interval)) × Right r ⌝ }
-{
-    let period = guarantee_period(terms.interval);
-    if known.period == period {
-        return known;
-    }
-    ScaledHaircuts::of_period(period)
 }
 
 // All zeros, beside the answer that the record is not accepted.
@@ -81,28 +62,26 @@ pub fn full_report(terms: Terms, collateral: CollateralList, guarantees: Guarant
     ensures { λ r. ⌜ r ≡ fullReport table2019 terms (countedCollateral collateral) (countedGuarantees guarantees) ⌝ }
 {
     let counterparty = terms.counterparty;
-    let known = ScaledHaircuts::of_period(holding_period(terms.kind, terms.interval));
-    let lent = lent_cut(terms, known);
-    let known = lent.known;
-    let pledged = value_collateral(terms, collateral, known);
-    let known = pledged.known;
-    let exposure = exposure_after(terms, lent.haircut, pledged.total);
+    let none = Roots::NONE;
+    let roots = none.for_terms(terms);
+    let pledged = value_collateral(terms, collateral, roots.deal);
     let weight = counterparty_weight(counterparty.class, counterparty.step);
-    let known = known_for_guarantees(terms, known);
-    let guaranteed = value_guarantees(terms, guarantees, weight, known);
+    let guaranteed = value_guarantees(terms, guarantees, weight, roots.guarantees);
     let protections = guaranteed.protections;
-    let covered = cover(protections, guarantees.count, exposure, weight);
+    let count = guarantees.count;
+    let amounts = amounts_of(terms, roots.deal, pledged.total, protections, count);
+    let covered = amounts.cover;
     let values = guaranteed.reports;
     let portions = covered.portions;
-    let reports = with_portions(values, portions, guarantees.count);
+    let reports = with_portions(values, portions, count);
     let pledges = pledged.reports;
     Report {
         answer: Answer::Accepted,
-        exposure,
+        exposure: amounts.exposure,
         collateral: pledges,
         guarantees: reports,
         rest: covered.rest,
-        weighted: weighted(covered.weighted_sum),
+        weighted: amounts.weighted,
     }
 }
 

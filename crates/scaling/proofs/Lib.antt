@@ -1,3 +1,3 @@
 pub mod Scaled
-pub mod Known
+pub mod Below
 pub mod Periods

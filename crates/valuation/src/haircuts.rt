@@ -1,39 +1,26 @@
 // Haircuts scaled to the holding period, in millionths.
 ghost use mathlib.Core.Path.{_≡_};
 ghost use Prim.Native.Nat.{_≤_};
-ghost use Rattle.scaling.specs.Shared.{Right};
+ghost use Rattle.scaling.specs.Root.{Rooted};
 ghost use Rattle.valuation.specs.Haircuts.{currencyCut, collateralCut};
-use scaling::shared::Scaled;
-use scaling::shared::ScaledHaircuts;
+use scaling::root::Root;
 use tables::haircuts::CURRENCY;
 
-// The currency haircut, over the period of what is known.
-pub fn currency_cut(known: ScaledHaircuts, currency: u64, deal_currency: u64) -> Scaled
-    requires { ⌜ Right known ⌝ }
-    ensures { λ r. ⌜ (r .haircut ≡ currencyCut currency «deal_currency» (known .period)) × ((r .known .period ≡ known .period) × Right (r .known)) ⌝ }
+// The currency haircut, over the period of this root.
+pub fn currency_cut(root: Root, currency: u64, deal_currency: u64) -> u64
+    requires { ⌜ Rooted root ⌝ }
+    ensures { λ r. ⌜ r ≡ currencyCut currency «deal_currency» (root .period) ⌝ }
 {
     if currency == deal_currency {
-        return Scaled { haircut: 0, known };
+        return 0;
     }
-    known.scale(CURRENCY)
+    root.scale(CURRENCY)
 }
 
 // The haircuts of collateral, each scaled by itself.
-pub fn collateral_cut(
-    known: ScaledHaircuts,
-    haircut: u64,
-    currency: u64,
-    deal_currency: u64,
-) -> Scaled
-    requires { ⌜ (haircut ≤ 1000000) × Right known ⌝ }
-    ensures { λ r. ⌜ (r .haircut ≡ collateralCut haircut currency «deal_currency» (known .period)) × ((r .known .period ≡ known .period) × Right (r .known)) ⌝ }
+pub fn collateral_cut(root: Root, haircut: u64, currency: u64, deal_currency: u64) -> u64
+    requires { ⌜ (haircut ≤ 1000000) × Rooted root ⌝ }
+    ensures { λ r. ⌜ r ≡ collateralCut haircut currency «deal_currency» (root .period) ⌝ }
 {
-    let own = known.scale(haircut);
-    let known = own.known;
-    let other = currency_cut(known, currency, deal_currency);
-    let known = other.known;
-    Scaled {
-        haircut: own.haircut + other.haircut,
-        known,
-    }
+    root.scale(haircut) + currency_cut(root, currency, deal_currency)
 }

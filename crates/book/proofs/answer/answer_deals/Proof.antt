@@ -9,6 +9,8 @@ use lib.Seq.{drop-drop, length-take-le, paste, take-paste, drop-paste, length-pa
 use Rattle.base.proofs.Tests.{tests}
 use Rattle.text.specs.Text.{linesOf}
 use Rattle.text.proofs.Lines.{rest-part, no-lines-at}
+use Rattle.scaling.proofs.Below.{root-none}
+use Rattle.relief.specs.Working.{BothRooted}
 use Rattle.book.specs.Deals.{DealLines, dealsFrom, opensDeal}
 use Rattle.book.specs.Answers.{answersFrom, dealAnswer}
 use Rattle.book.specs.Working.{DealRead, ownFirst, firstDeal}
@@ -31,10 +33,10 @@ record Holds (lines before results : List ℕ) (at number deals : ℕ) : Type 0 
   behind : drop (deals * 4) results ≡ drop (deals * 4) before
 
 abbrev Inv-loop : tie.InvT-loop
-Inv-loop lines results₀ at₀ number₀ deals₀ results at number deals = Holds lines results₀ results at number deals
+Inv-loop lines results₀ at₀ number₀ roots₀ deals₀ results at number roots deals = Holds lines results₀ results at number deals × BothRooted roots
 
 abbrev μ-loop : tie.MeasureT-loop
-μ-loop lines results₀ at₀ number₀ deals₀ results at number deals = length lines - at
+μ-loop lines results₀ at₀ number₀ roots₀ deals₀ results at number roots deals = length lines - at
 
 -- one deal more
 module _
@@ -108,17 +110,19 @@ module _
 
 loop-holds : tie.Need-loop-holds Inv-loop μ-loop
 loop-holds c =
-    let p = c .before .before .pre in
-    record {
-      inside = omega arith;
-      numbered = omega arith;
-      few = omega arith;
-      begins = p .0;
-      same = refl;
-      room = omega (arith, p .1 .1);
-      written = refl;
-      behind = refl;
-    }
+    let p = c .before .before .pre in (
+      record {
+        inside = omega arith;
+        numbered = omega arith;
+        few = omega arith;
+        begins = p .0;
+        same = refl;
+        room = omega (arith, p .1 .1);
+        written = refl;
+        behind = refl;
+      },
+      (root-none, root-none),
+    )
 
 sub-answer-deal : tie.Need-sub-answer-deal Inv-loop μ-loop
 sub-answer-deal c = search tests
@@ -136,8 +140,11 @@ answer-deal-requires c κs =
     let part = rest-part lines (l .at) in
     let long = length-drop (l .at) lines in
     let h : 1 ≤ length (drop (l .at) lines) = omega (arith, long, c .before .loop-test .taken) in (
-      ap opensDeal part ∙ own-opens (drop (l .at) lines) (l .inv .begins) h,
-      omega (arith, ap length part, long, l .inv .numbered, c .before .before .before .before .before .pre .1 .0, c .before .loop-test .taken),
+      (
+        ap opensDeal part ∙ own-opens (drop (l .at) lines) (l .inv .0 .begins) h,
+        omega (arith, ap length part, long, l .inv .0 .numbered, c .before .before .before .before .before .pre .1 .0, c .before .loop-test .taken),
+      ),
+      l .inv .1,
     )
 
 -- the deal that was read, and that its numbers are small
@@ -148,50 +155,50 @@ module _ (c : tie.After-answer-deal Inv-loop μ-loop) where
   abbrev at₁ : ℕ
   at₁ = c .before .before .before .loop .at
 
-  read₁ : DealRead (c .before .before .before .loop .number) (drop at₁ lines₁) (c .answer-deal .result .end) (c .answer-deal .result .next)
-  read₁ = rw (rest-part lines₁ at₁) at (c .answer-deal .ensures .0)
+  read₁ : DealRead (c .before .before .before .loop .number) (drop at₁ lines₁) (c .answer-deal .result .answer .end) (c .answer-deal .result .answer .next)
+  read₁ = rw (rest-part lines₁ at₁) at (c .answer-deal .ensures .0 .0)
 
   answered₁ : dealAnswer (firstDeal (c .before .before .before .loop .number) (drop at₁ lines₁))
-      ≡ c .answer-deal .result .refusal ∷ c .answer-deal .result .figure ∷ c .answer-deal .result .weighted ∷ []
-  answered₁ = rw (rest-part lines₁ at₁) at (c .answer-deal .ensures .1)
+      ≡ c .answer-deal .result .answer .refusal ∷ c .answer-deal .result .answer .figure ∷ c .answer-deal .result .answer .weighted ∷ []
+  answered₁ = rw (rest-part lines₁ at₁) at (c .answer-deal .ensures .0 .1)
 
-  small : (c .before .before .before .loop .deals ≤ 65534) × ((at₁ + c .answer-deal .result .end ≤ 65534) × (1 ≤ c .answer-deal .result .end))
+  small : (c .before .before .before .loop .deals ≤ 65534) × ((at₁ + c .answer-deal .result .answer .end ≤ 65534) × (1 ≤ c .answer-deal .result .answer .end))
   small =
       let l = c .before .before .before .loop in
       let p = c .before .before .before .before .before .before .pre .1 .0 in
       let long = length-drop at₁ lines₁ in (
-        omega (arith, l .inv .few, l .inv .inside, p),
+        omega (arith, l .inv .0 .few, l .inv .0 .inside, p),
         (omega (arith, read₁ .inside, long, c .before .before .loop-test .taken, p), read₁ .some),
       )
 
 mul-put-answer : tie.Need-mul-put-answer Inv-loop μ-loop
-mul-put-answer c = search (tests, small (c .before))
+mul-put-answer c = search (tests, small (c .before .before))
 
 add-put-answer : tie.Need-add-put-answer Inv-loop μ-loop
-add-put-answer c = search (tests, small (c .before))
+add-put-answer c = search (tests, small (c .before .before))
 
 put-answer-requires : tie.Need-put-answer-requires Inv-loop μ-loop
 put-answer-requires c κs =
-    let a = c .before in
-    fits (a .before .before .before .loop .inv) (a .before .before .loop-test .taken) (read₁ a) (answered₁ a)
+    let a = c .before .before in
+    fits (a .before .before .before .loop .inv .0) (a .before .before .loop-test .taken) (read₁ a) (answered₁ a)
 
 add-at : tie.Need-add-at Inv-loop μ-loop
-add-at c = search (tests, small (c .before .before .before .before .before))
+add-at c = search (tests, small (c .before .before .before .before .before .before))
 
 add-deals : tie.Need-add-deals Inv-loop μ-loop
-add-deals c = search (tests, small (c .before .before .before .before .before))
+add-deals c = search (tests, small (c .before .before .before .before .before .before .before))
 
 loop-less : tie.Need-loop-less Inv-loop μ-loop
-loop-less c = omega (arith, small (c .before .before .before .before .before), c .before .before .before .before .before .before .before .loop-test .taken)
+loop-less c = omega (arith, small (c .before .before .before .before .before .before .before), c .before .before .before .before .before .before .before .before .before .loop-test .taken)
 
 loop-again : tie.Need-loop-again Inv-loop μ-loop
 loop-again c =
-    let a = c .before .before .before .before .before in
-    let next = step (a .before .before .before .loop .inv) (a .before .before .loop-test .taken) (read₁ a) (answered₁ a) in
-    rw (c .before .before .before .put-answer .ensures) next
+    let a = c .before .before .before .before .before .before .before in
+    let next = step (a .before .before .before .loop .inv .0) (a .before .before .loop-test .taken) (read₁ a) (answered₁ a) in
+    (rw (c .before .before .before .before .put-answer .ensures) next, a .answer-deal .ensures .1)
 
 same-length : tie.Need-same-length Inv-loop μ-loop
-same-length c = search (tests, c .before .loop .inv .same)
+same-length c = search (tests, c .before .loop .inv .0 .same)
 
 returns : tie.Need-returns Inv-loop μ-loop
 returns c =
@@ -201,12 +208,12 @@ returns c =
     let before = s .args .results .now in
     let none : answersFrom (l .deals + 1) (toCome lines (l .at) (l .number)) ≡ [] = rw (no-lines-at lines (l .at) (c .loop-test .left), no-deals, no-answers) in
     let all : take (l .deals * 4) (l .results) ≡ answersFrom 1 (toCome lines 0 2) =
-    sym (append-nil (take (l .deals * 4) (l .results))) ∙ ap (λ xs. take (l .deals * 4) (l .results) ++ xs) (sym none) ∙ l .inv .written in
-    let fits : l .deals * 4 ≤ length (l .results) = omega (arith, l .inv .room, l .inv .same) in
+    sym (append-nil (take (l .deals * 4) (l .results))) ∙ ap (λ xs. take (l .deals * 4) (l .results) ++ xs) (sym none) ∙ l .inv .0 .written in
+    let fits : l .deals * 4 ≤ length (l .results) = omega (arith, l .inv .0 .room, l .inv .0 .same) in
     let count : l .deals * 4 ≡ length (answersFrom 1 (toCome lines 0 2)) = sym (length-take-le (l .deals * 4) (l .results) fits) ∙ ap length all in
     sym (take-append-drop (l .deals * 4) (l .results))
     ∙ ap (λ xs. xs ++ drop (l .deals * 4) (l .results)) all
-    ∙ ap (λ xs. answersFrom 1 (toCome lines 0 2) ++ xs) (l .inv .behind ∙ ap (λ n. drop n before) count)
+    ∙ ap (λ xs. answersFrom 1 (toCome lines 0 2) ++ xs) (l .inv .0 .behind ∙ ap (λ n. drop n before) count)
 
 pub answer-deals-spec : {M : Type 1} → statement M
 answer-deals-spec =

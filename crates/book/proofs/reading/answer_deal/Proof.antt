@@ -59,7 +59,7 @@ module _ (c : tie.After-opening-refusal) where
 refused-requires : tie.Need-refused-requires
 refused-requires c κs =
     let e = line-ended (c .before) in
-    (inside e, omega (arith, e .before .before .pre .1))
+    (inside e, omega (arith, e .before .before .pre .0 .1))
 
 returns : tie.Need-returns
 returns c =
@@ -68,13 +68,13 @@ returns c =
     let s = e .before .before in
     let r = c .refused .ensures in
     let told = refusal o in (
-      deal-read (text e) (s .args .number) _ _ (s .pre .0) (rw (ends e) at (r .1)),
-      unopened-answer (firstDeal (s .args .number) (text e)) (rw told at (ne-eqb _ _ (c .before .if1 .taken)))
-          ∙ sym (three (r .0 .0 ∙ told) (r .0 .1 .0) (r .0 .1 .1)),
+      (
+        deal-read (text e) (s .args .number) _ _ (s .pre .0 .0) (rw (ends e) at (r .1)),
+        unopened-answer (firstDeal (s .args .number) (text e)) (rw told at (ne-eqb _ _ (c .before .if1 .taken)))
+            ∙ sym (three (r .0 .0 ∙ told) (r .0 .1 .0) (r .0 .1 .1)),
+      ),
+      s .pre .1,
     )
-
-add-opened : tie.Need-add-opened
-add-opened c = search tests
 
 terms-said-requires : tie.Need-terms-said-requires
 terms-said-requires c κs = tt
@@ -86,24 +86,35 @@ said c =
     let e = c .terms-said .ensures ∙ ap termsSaid (read o) in
     (e, ap termsRefusal e ∙ opening-terms _ (sym (refusal o) ∙ c .before .if1 .left))
 
+for-terms-requires : tie.Need-for-terms-requires
+for-terms-requires c κs = (said c .1, line-ended (c .before .before) .before .before .pre .1)
+
+add-opened : tie.Need-add-opened
+add-opened c = search tests
+
 opened-requires : tie.Need-opened-requires
 opened-requires c κs =
-    let o = c .before .before in
-    let e = line-ended o in
-    (said c .1, (inside e, omega (arith, e .before .before .pre .1, first-at-some (text e) 0 (opens-some (text e) (e .before .before .pre .0)), ends e)))
+    let t = c .before in
+    let e = line-ended (t .before .before) in
+    let s = e .before .before in
+    ((said t .1, (inside e, omega (arith, s .pre .0 .1, first-at-some (text e) 0 (opens-some (text e) (s .pre .0 .0)), ends e))), c .for-terms .ensures)
 
 returns-2 : tie.Need-returns-2
 returns-2 c =
-    let t = c .before in
+    let f = c .before in
+    let t = f .before in
     let o = t .before .before in
     let e = line-ended o in
     let s = e .before .before in
     let lines : ℕ → Terms → List ℕ = λ n terms. linesAnswer (s .args .number + 1) (openedDeal terms) (ownLines (linesOf (drop n (text e)))) in (
-      deal-read (text e) (s .args .number) _ _ (s .pre .0) (rw (ends e) at (c .opened .ensures .0)),
-      opened-answer (firstDeal (s .args .number) (text e)) (sym (refusal o) ∙ t .before .if1 .left)
-          ∙ ap (lines (length (firstLine (text e)))) (sym (said t .0))
-          ∙ ap (λ n. lines n (t .terms-said .result)) (sym (ends e))
-          ∙ c .opened .ensures .1,
+      (
+        deal-read (text e) (s .args .number) _ _ (s .pre .0 .0) (rw (ends e) at (c .opened .ensures .0)),
+        opened-answer (firstDeal (s .args .number) (text e)) (sym (refusal o) ∙ t .before .if1 .left)
+            ∙ ap (lines (length (firstLine (text e)))) (sym (said t .0))
+            ∙ ap (λ n. lines n (t .terms-said .result)) (sym (ends e))
+            ∙ c .opened .ensures .1,
+      ),
+      (f .for-terms .ensures .deal-rooted, f .for-terms .ensures .guarantee-rooted),
     )
 
 pub answer-deal-spec : {M : Type 1} → statement M
@@ -116,7 +127,8 @@ answer-deal-spec =
     opening-refusal-requires
     refused-requires
     returns
-    add-opened
     terms-said-requires
+    for-terms-requires
+    add-opened
     opened-requires
     returns-2)

@@ -11,8 +11,6 @@ use Rattle.base.proofs.Arrays.{unmapped}
 use Rattle.base.proofs.Places.{fill-more, placed}
 use Rattle.base.proofs.Sum.{sum-take}
 use Rattle.tables.specs.Table.{table2019}
-use Rattle.scaling.specs.Shared.{Right}
-use Rattle.scaling.specs.declared.shared.ScaledHaircuts.{ScaledHaircuts}
 use Rattle.deal.specs.declared.terms.Terms.{Terms}
 use Rattle.deal.specs.declared.collateral.Collateral.{Collateral}
 use Rattle.deal.specs.Deals.{zeroCollateral}
@@ -29,20 +27,18 @@ use Rattle.relief.proofs.collateral.value_collateral.Tie as tie
 abbrev entry : Terms → Collateral → CollateralReport
 entry t c = record { outcome = collateralOutcome table2019 t c }
 
-record Holds (t : Terms) (items : List Collateral) (count period : ℕ) (reports : List CollateralReport) (total : ℕ) (known : ScaledHaircuts) (i : ℕ) : Type 0 where
+record Holds (t : Terms) (items : List Collateral) (count : ℕ) (reports : List CollateralReport) (total i : ℕ) : Type 0 where
   passed : i ≤ count
   held : count ≤ 16
   reported : reports ≡ map (entry t) (take i items) ++ drop i (replicate 16 noCollateral)
   totalled : total ≡ collateralTotal table2019 t (take i items)
   small : total ≤ i * 1000000000000
-  same : known .period ≡ period
-  right : Right known
 
 abbrev Inv-loop : tie.InvT-loop
-Inv-loop terms items count reports₀ total₀ known₀ i₀ reports total known i = Holds terms items count (known₀ .period) reports total known i
+Inv-loop terms root items count reports₀ total₀ i₀ reports total i = Holds terms items count reports total i
 
 abbrev μ-loop : tie.MeasureT-loop
-μ-loop terms items count reports₀ total₀ known₀ i₀ reports total known i = count - i
+μ-loop terms root items count reports₀ total₀ i₀ reports total i = count - i
 
 long : (c : tie.Start Inv-loop μ-loop) → length (c .args .list .items) ≡ 16
 long c = search (unmapped, c .good)
@@ -51,7 +47,7 @@ loop-holds : tie.Need-loop-holds Inv-loop μ-loop
 unfolding collateralTotal sumOf
 loop-holds c =
     let s = c .before in
-    record { passed = omega arith; held = collateral-count (s .args .list) (s .pre .0); reported = refl; totalled = refl; small = omega arith; same = refl; right = s .pre .1 .1 }
+    record { passed = omega arith; held = collateral-count (s .args .list) (s .pre .0); reported = refl; totalled = refl; small = omega arith }
 
 mul-item : tie.Need-mul-item Inv-loop μ-loop
 mul-item c = omega arith
@@ -64,7 +60,7 @@ value-item-requires c κs =
     let l = c .before .before in
     let s = l .before .before in
     let item = collateral-at (s .args .list) (s .pre .0) (l .loop .i) zeroCollateral (c .before .loop-test .taken) (omega (arith, long s)) in
-    (item .amount, (l .loop .inv .same ∙ s .pre .1 .0, l .loop .inv .right))
+    (item .amount, s .pre .1)
 
 mul-reports : tie.Need-mul-reports Inv-loop μ-loop
 mul-reports c = omega arith
@@ -81,7 +77,7 @@ worth c =
     let l = c .before .before .before .before in
     let s = l .before .before in
     let item = collateral-at (s .args .list) (s .pre .0) (l .loop .i) zeroCollateral (c .before .before .before .loop-test .taken) (omega (arith, long s)) in
-    rw (c .value .ensures, c .before .value-item .ensures .0) (le-trans (collateral-le table2019 (s .args .terms) _) (item .amount))
+    rw (c .value .ensures, c .before .value-item .ensures) (le-trans (collateral-le table2019 (s .args .terms) _) (item .amount))
 
 add-total : tie.Need-add-total Inv-loop μ-loop
 add-total c = omega (arith, worth c, c .before .before .before .before .loop .inv .small)
@@ -95,7 +91,7 @@ loop-less c = omega arith
 loop-again : tie.Need-loop-again Inv-loop μ-loop
 unfolding collateralTotal
 loop-again c =
-    let v = c .before .before in
+    let v = c .before in
     let l = v .before .before .before in
     let s = l .before .before in
     let items = s .args .list .items in
@@ -104,11 +100,9 @@ loop-again c =
     record {
       passed = omega arith;
       held = l .loop .inv .held;
-      reported = rw (l .loop .inv .reported, v .value-item .ensures .0) (fill-more (entry (s .args .terms)) zeroCollateral i items _ h (omega arith));
-      totalled = rw (c .before .value .ensures, v .value-item .ensures .0, l .loop .inv .totalled) (sym (sum-take (λ x. outcomeValue (collateralOutcome table2019 (s .args .terms) x)) items i zeroCollateral h));
-      small = omega (arith, worth (c .before), l .loop .inv .small);
-      same = v .value-item .ensures .1 .0 ∙ l .loop .inv .same;
-      right = v .value-item .ensures .1 .1;
+      reported = rw (l .loop .inv .reported, v .value-item .ensures) (fill-more (entry (s .args .terms)) zeroCollateral i items _ h (omega arith));
+      totalled = rw (c .value .ensures, v .value-item .ensures, l .loop .inv .totalled) (sym (sum-take (λ x. outcomeValue (collateralOutcome table2019 (s .args .terms) x)) items i zeroCollateral h));
+      small = omega (arith, worth c, l .loop .inv .small);
     }
 
 returns : tie.Need-returns Inv-loop μ-loop
@@ -120,7 +114,7 @@ returns c =
     let e : l .i ≡ count = omega arith in
     let ys = map (entry (s .args .terms)) (take count items) in
     let n : length ys ≡ count = length-map (take count items) (entry (s .args .terms)) ∙ length-take-le count items (omega (arith, long s, l .inv .held)) in
-    (rw (l .inv .reported, e) (placed 16 count noCollateral ys n), (rw (l .inv .totalled, e), (l .inv .same, l .inv .right)))
+    (rw (l .inv .reported, e) (placed 16 count noCollateral ys n), rw (l .inv .totalled, e))
 
 pub value-collateral-spec : {M : Type 1} → statement M
 value-collateral-spec =

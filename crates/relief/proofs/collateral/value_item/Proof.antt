@@ -19,12 +19,10 @@ unfolding cutOf
 outcome-after-cut-requires c κs =
     let h = c .before in
     let s = h .before .before in
-    (s .pre .0, rw (c .collateral-cut .ensures .0, h .haircut .ensures, s .pre .1 .0))
+    (s .pre .0, rw (c .collateral-cut .ensures, h .haircut .ensures, s .pre .1 .0))
 
 returns : tie.Need-returns
-returns c =
-    let o = c .before in
-    (o .outcome-after-cut .ensures, o .before .collateral-cut .ensures .1)
+returns c = c .outcome-after-cut .ensures
 
 pub value-item-spec : {M : Type 1} → statement M
 value-item-spec =

@@ -18,7 +18,7 @@ returns : tie.Need-returns
 unfolding lentCut
 returns c =
     let h = c .before in
-    (rw (c .scale .ensures .0, h .lent-haircut .ensures, h .before .before .pre .0), c .scale .ensures .1)
+    rw (c .scale .ensures, h .lent-haircut .ensures, h .before .before .pre .0)
 
 pub lent-cut-spec : {M : Type 1} → statement M
 lent-cut-spec = tie.close (tie.spec lent-haircut-requires scale-requires returns)

@@ -8,8 +8,6 @@ use lib.Seq.{length-take-le}
 use Rattle.base.proofs.Arrays.{unmapped}
 use Rattle.base.proofs.Places.{fill-more, placed}
 use Rattle.tables.specs.Table.{table2019}
-use Rattle.scaling.specs.Shared.{Right}
-use Rattle.scaling.specs.declared.shared.ScaledHaircuts.{ScaledHaircuts}
 use Rattle.cover.specs.declared.protection.Protection.{Protection}
 use Rattle.deal.specs.Deals.{zeroGuarantee}
 use Rattle.deal.specs.declared.terms.Terms.{Terms}
@@ -22,19 +20,17 @@ use Rattle.relief.specs.Working.{uncovered, noProtection}
 use Rattle.relief.proofs.guarantee.value_guarantees.Statement.{statement}
 use Rattle.relief.proofs.guarantee.value_guarantees.Tie as tie
 
-record Holds (t : Terms) (items : List Guarantee) (count period : ℕ) (reports : List GuaranteeReport) (protections : List Protection) (known : ScaledHaircuts) (i : ℕ) : Type 0 where
+record Holds (t : Terms) (items : List Guarantee) (count : ℕ) (reports : List GuaranteeReport) (protections : List Protection) (i : ℕ) : Type 0 where
   passed : i ≤ count
   held : count ≤ 16
   reported : reports ≡ map (uncovered table2019 t) (take i items) ++ drop i (replicate 16 noGuarantee)
   protected : protections ≡ map (protectionOf table2019 t) (take i items) ++ drop i (replicate 16 noProtection)
-  same : known .period ≡ period
-  right : Right known
 
 abbrev Inv-loop : tie.InvT-loop
-Inv-loop terms limit items count reports₀ protections₀ known₀ i₀ reports protections known i = Holds terms items count (known₀ .period) reports protections known i
+Inv-loop terms limit root items count reports₀ protections₀ i₀ reports protections i = Holds terms items count reports protections i
 
 abbrev μ-loop : tie.MeasureT-loop
-μ-loop terms limit items count reports₀ protections₀ known₀ i₀ reports protections known i = count - i
+μ-loop terms limit root items count reports₀ protections₀ i₀ reports protections i = count - i
 
 long : (c : tie.Start Inv-loop μ-loop) → length (c .args .list .items) ≡ 16
 long c = search (unmapped, c .good)
@@ -42,7 +38,7 @@ long c = search (unmapped, c .good)
 loop-holds : tie.Need-loop-holds Inv-loop μ-loop
 loop-holds c =
     let s = c .before in
-    record { passed = omega arith; held = guarantee-count (s .args .list) (s .pre .0 .0); reported = refl; protected = refl; same = refl; right = s .pre .1 .1 }
+    record { passed = omega arith; held = guarantee-count (s .args .list) (s .pre .0 .0); reported = refl; protected = refl }
 
 mul-item : tie.Need-mul-item Inv-loop μ-loop
 mul-item c = omega arith
@@ -55,7 +51,7 @@ value-item-requires c κs =
     let l = c .before .before in
     let s = l .before .before in
     let item = guarantee-taken (s .args .list) (s .pre .0 .0) (l .loop .i) zeroGuarantee (c .before .loop-test .taken) (omega (arith, long s)) in
-    ((item, s .pre .0 .1), (l .loop .inv .same ∙ s .pre .1 .0, l .loop .inv .right))
+    ((item, s .pre .0 .1), s .pre .1)
 
 mul-reports : tie.Need-mul-reports Inv-loop μ-loop
 mul-reports c = omega arith
@@ -77,7 +73,7 @@ loop-less c = omega arith
 
 loop-again : tie.Need-loop-again Inv-loop μ-loop
 loop-again c =
-    let v = c .before .before in
+    let v = c .before in
     let l = v .before .before .before in
     let s = l .before .before in
     let items = s .args .list .items in
@@ -86,10 +82,8 @@ loop-again c =
     record {
       passed = omega arith;
       held = l .loop .inv .held;
-      reported = rw (l .loop .inv .reported, v .value-item .ensures .0 .0) (fill-more (uncovered table2019 (s .args .terms)) zeroGuarantee i items _ h (omega arith));
-      protected = rw (l .loop .inv .protected, v .value-item .ensures .0 .1) (fill-more (protectionOf table2019 (s .args .terms)) zeroGuarantee i items _ h (omega arith));
-      same = v .value-item .ensures .1 .0 ∙ l .loop .inv .same;
-      right = v .value-item .ensures .1 .1;
+      reported = rw (l .loop .inv .reported, v .value-item .ensures .0) (fill-more (uncovered table2019 (s .args .terms)) zeroGuarantee i items _ h (omega arith));
+      protected = rw (l .loop .inv .protected, v .value-item .ensures .1) (fill-more (protectionOf table2019 (s .args .terms)) zeroGuarantee i items _ h (omega arith));
     }
 
 returns : tie.Need-returns Inv-loop μ-loop

@@ -16,18 +16,16 @@ outcome-after-cut-requires : tie.Need-outcome-after-cut-requires
 outcome-after-cut-requires c κs =
     let w = c .before in
     let s = w .before .before in
-    ((plain s .amount, rw (c .currency-cut .ensures .0, s .pre .1 .0)), (w .provider-weight .ensures, s .pre .0 .1))
+    ((plain s .amount, rw (c .currency-cut .ensures, s .pre .1 .0)), (w .provider-weight .ensures, s .pre .0 .1))
 
 value-requires : tie.Need-value-requires
 value-requires c κs = tt
 
 returns : tie.Need-returns
 returns c =
-    let v = c .before in
-    let o = v .before in
-    let k = o .before in
-    let w = k .before in
-    ((o .outcome-after-cut .ensures, rw (v .value .ensures, o .outcome-after-cut .ensures, w .provider-weight .ensures)), k .currency-cut .ensures .1)
+    let o = c .before in
+    let w = o .before .before in
+    (o .outcome-after-cut .ensures, rw (c .value .ensures, o .outcome-after-cut .ensures, w .provider-weight .ensures))
 
 pub value-item-spec : {M : Type 1} → statement M
 value-item-spec =
