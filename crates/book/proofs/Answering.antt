@@ -1,6 +1,6 @@
 -- Laws of a deal's answer. Assumes nothing.
 use Prim.Native.Nat.{ℕ, _+_, _*_}
-use mathlib.Core.Path.{_≡_, refl, sym, _∙_, ap}
+use mathlib.Core.Path.{_≡_, refl, _∙_, ap}
 use mathlib.Core.Bool.{Bool, true, false}
 use mathlib.Core.List.{List, [], _∷_, _++_}
 use native.Mathlib.Omega.{arith}
@@ -12,7 +12,6 @@ use Rattle.base.specs.FirstMet.{firstOr}
 use Rattle.deal.specs.Deals.{accepted, addCollateralTests, addCollateralRefusal, addGuaranteeTests, addGuaranteeRefusal, openedDeal}
 use Rattle.deal.specs.Terms.{termsRefusal}
 use Rattle.deal.specs.declared.deal.Deal.{Deal}
-use Rattle.deal.specs.declared.terms.Terms.{Terms}
 use Rattle.relief.specs.Report.{reportOf}
 use Rattle.lines.specs.Lines.{lineOf}
 use Rattle.lines.specs.declared.line.Line.{Line}

@@ -1,17 +1,17 @@
 -- A deal while its further lines are read: its lists hold the items so far, and the answer so far and the lines to come make the whole
 -- one. Assumes nothing.
 use Prim.Native.Nat.{ℕ, _+_, _≤_, _<_}
-use mathlib.Core.Path.{_≡_, refl, sym, _∙_, ap, subst}
+use mathlib.Core.Path.{_≡_, sym, _∙_, ap, subst}
 use mathlib.Core.Bool.{true, false}
 use mathlib.Core.List.{List, [], _∷_}
 use borrow.Author.Tests.{eq-eqb}
 use lib.Dec.{eqb}
-use lib.ListN.{length, drop, replicate}
+use lib.ListN.{length, drop}
 use Rattle.base.proofs.Choice.{if-true}
 use Rattle.text.specs.Text.{firstLine, linesOf}
 use Rattle.deal.specs.Terms.{termsRefusal}
 use Rattle.deal.specs.Items.{appendCollateral, appendGuarantee, collateralRefusal, guaranteeRefusal, listLimit}
-use Rattle.deal.specs.Deals.{accepted, openedDeal, withoutProtection, addCollateralRefusal, addGuaranteeRefusal, withCollateral, withGuarantee}
+use Rattle.deal.specs.Deals.{accepted, openedDeal, withoutProtection}
 use Rattle.deal.specs.declared.terms.Terms.{Terms}
 use Rattle.deal.specs.declared.collateral.Collateral.{Collateral}
 use Rattle.deal.specs.declared.collateral.CollateralList.{CollateralList}

@@ -2,25 +2,25 @@
 -- deal itself is there in the proof alone. Assumes nothing.
 use Prim.Native.Nat.{ℕ, _+_, _*_, _-_, _≤_, _<_, min}
 use mathlib.Core.Path.{_≡_, refl, sym, _∙_, ap}
-use mathlib.Core.Bool.{true, false}
+use mathlib.Core.Bool.{false}
 use mathlib.Core.List.{List, [], _∷_, map, _++_}
 use native.Mathlib.Omega.{arith}
 use native.Mathlib.Nat.{le-trans}
 use lib.Dec.{eqb, leb}
-use lib.ListN.{length, take, drop, set, getD, replicate, length-map, length-set}
-use lib.Seq.{getD-set-same, length-take-le, take-set-le, take-append-seam}
+use lib.ListN.{length, take, drop, set, replicate, length-map, length-set}
+use lib.Seq.{getD-set-same, length-take-le, take-set-le}
 use Rattle.base.specs.Sum.{sumOf}
 use Rattle.base.proofs.Every.{both}
 use Rattle.base.proofs.Places.{fill-more, placed, taken}
 use Rattle.base.proofs.Sum.{sum-take}
-use Rattle.text.specs.Text.{firstLine, linesOf}
+use Rattle.text.specs.Text.{firstLine}
 use Rattle.tables.specs.Table.{table2019}
 use Rattle.valuation.specs.Exposure.{weighted}
 use Rattle.cover.specs.Cover.{coverOf, weightedSum}
 use Rattle.cover.specs.declared.protection.Protection.{Protection}
 use Rattle.deal.specs.Terms.{termsRefusal}
 use Rattle.deal.specs.Items.{appendCollateral, appendGuarantee, collateralRefusal, countedCollateral, countedGuarantees, guaranteeListAllowed, guaranteeRefusal}
-use Rattle.deal.specs.Deals.{accepted, withoutProtection, zeroCollateral, zeroGuarantee}
+use Rattle.deal.specs.Deals.{withoutProtection, zeroCollateral, zeroGuarantee}
 use Rattle.deal.specs.declared.terms.Terms.{Terms}
 use Rattle.deal.specs.declared.collateral.Collateral.{Collateral}
 use Rattle.deal.specs.declared.collateral.CollateralList.{CollateralList}
@@ -31,7 +31,6 @@ use Rattle.deal.proofs.Plain.{guarantee-count, plain-collateral}
 use Rattle.relief.specs.Outcomes.{outcomeValue}
 use Rattle.relief.specs.Recognition.{collateralOutcome, counterpartyWeightOf, protectionOf}
 use Rattle.relief.specs.Exposure.{collateralTotal, exposureAfter, protections, raisedExposure, weightedAmount}
-use Rattle.relief.specs.Report.{reportOf}
 use Rattle.relief.specs.Working.{PiecesOf, exposureLess, noProtection}
 use Rattle.relief.proofs.Reports.{exposure-of, weighted-of}
 use Rattle.relief.proofs.ValueBounds.{collateral-le}
@@ -39,12 +38,11 @@ use Rattle.lines.specs.Lines.{lineOf}
 use Rattle.lines.specs.declared.line.Line.{Line}
 use Rattle.lines.specs.declared.line.Line.the-variants.{CollateralLine, GuaranteeLine}
 use Rattle.book.specs.Answers.{withLine, linesAnswer}
-use Rattle.book.specs.Deals.{ownLines}
 use Rattle.book.specs.Working.{furtherRefusal, ownFirst}
 use Rattle.book.proofs.Answering.{three, no-more-lines}
 use Rattle.book.proofs.Grouping.{own-over}
 use Rattle.book.proofs.Held.{Held, dealOf, whole, collateral-put, guarantee-put, held-first, held-refused, held-next}
-use Rattle.book.proofs.Passing.{OwnLine, Passed}
+use Rattle.book.proofs.Passing.{OwnLine}
 
 -- what an item of collateral is worth
 abbrev pub worth : Terms → Collateral → ℕ

@@ -2,8 +2,8 @@
 ghost use Prim.Native.Nat.{_≤_};
 use scaling::period::guarantee_period;
 use scaling::period::holding_period;
+use scaling::root::Root;
 use scaling::scaling::scaled_haircut;
-use scaling::shared::ScaledHaircuts;
 use tables::haircuts::haircut;
 use tables::haircuts::lent_haircut;
 use valuation::exposure::raised;
@@ -59,9 +59,9 @@ fn pledged(
 ) -> u64
     requires { ⌜ (amount ≤ 1000000000000) × ((1 ≤ interval) × (interval ≤ 250)) ⌝ }
 {
-    let known = ScaledHaircuts::of_period(holding_period(kind, interval));
-    let cut = collateral_cut(known, haircut(goods, step, life), currency, HOME);
-    recognised(amount, cut.haircut, 1_800, 1_800)
+    let root = Root::of_period(holding_period(kind, interval));
+    let cut = collateral_cut(root, haircut(goods, step, life), currency, HOME);
+    recognised(amount, cut, 1_800, 1_800)
 }
 
 fn matched() {
@@ -133,9 +133,9 @@ fn roundings() {
 fn guaranteed(amount: u64, interval: u64) -> u64
     requires { ⌜ (amount ≤ 1000000000000) × (interval ≤ 250) ⌝ }
 {
-    let known = ScaledHaircuts::of_period(guarantee_period(interval));
-    let cut = currency_cut(known, ABROAD, HOME);
-    recognised(amount, cut.haircut, 1_800, 1_800)
+    let root = Root::of_period(guarantee_period(interval));
+    let cut = currency_cut(root, ABROAD, HOME);
+    recognised(amount, cut, 1_800, 1_800)
 }
 
 fn abroad() {
@@ -178,9 +178,9 @@ fn abroad() {
 fn lent(amount: u64, goods: u64, step: u64, life: u64) -> u64
     requires { ⌜ amount ≤ 1000000000000 ⌝ }
 {
-    let known = ScaledHaircuts::of_period(holding_period(1, 6));
-    let cut = known.scale(lent_haircut(goods, step, life));
-    raised(amount, cut.haircut)
+    let root = Root::of_period(holding_period(1, 6));
+    let cut = root.scale(lent_haircut(goods, step, life));
+    raised(amount, cut)
 }
 
 fn exposures() {

@@ -1,3 +1,4 @@
 pub mod Bytes
 pub mod Decimal
 pub mod Text
+pub mod Working

@@ -3,6 +3,7 @@ ghost use mathlib.Core.Path.{_≡_};
 ghost use Prim.Native.Nat.{_+_, _≤_};
 ghost use lib.ListN.{drop, length};
 ghost use Rattle.text.specs.Text.{firstLine, startsWith};
+ghost use Rattle.text.specs.Working.{Near, unfed};
 
 pub const TAB: u8 = 9;
 
@@ -25,12 +26,42 @@ pub fn starts_with(text: &[u8], prefix: &[u8]) -> bool
     true
 }
 
+// Whether none of the eight bytes from here on is a line feed. Without branches, so that they are compared at once.
+fn eight_unfed(text: &[u8], at: usize) -> bool
+    requires { ⌜ at + 8 ≤ length (now text) ⌝ }
+    ensures { λ r. ⌜ r ≡ unfed 8 (now (text .entry)) at ⌝ }
+{
+    (text[at] != LINE_FEED)
+        & (text[at + 1] != LINE_FEED)
+        & (text[at + 2] != LINE_FEED)
+        & (text[at + 3] != LINE_FEED)
+        & (text[at + 4] != LINE_FEED)
+        & (text[at + 5] != LINE_FEED)
+        & (text[at + 6] != LINE_FEED)
+        & (text[at + 7] != LINE_FEED)
+}
+
+// A place in the line that starts here, at most eight bytes before its end or the text's.
+fn near_end(text: &[u8], start: usize) -> usize
+    requires { ⌜ start ≤ length (now text) ⌝ }
+    ensures { λ r. ⌜ Near (now (text .entry)) start r ⌝ }
+{
+    let mut at: usize = start;
+    while text.len() - at >= 8 {
+        if !eight_unfed(text, at) {
+            return at;
+        }
+        at += 8;
+    }
+    at
+}
+
 // Where the line that starts here ends: behind its line feed, or else where the text ends.
 pub fn line_end(text: &[u8], start: usize) -> usize
     requires { ⌜ start ≤ length (now text) ⌝ }
     ensures { λ r. ⌜ r ≡ start + length (firstLine (drop start (now (text .entry)))) ⌝ }
 {
-    let mut at: usize = start;
+    let mut at = near_end(text, start);
     while at < text.len() {
         if text[at] == LINE_FEED {
             return at + 1;

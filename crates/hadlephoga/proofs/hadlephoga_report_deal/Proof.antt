@@ -1,15 +1,14 @@
 -- `hadlephoga::hadlephoga_report_deal` meets its contract: by whether the lent list has room. Assumes nothing.
-use mathlib.Core.Path.{_≡_, refl, sym, ap, _∙_}
+use mathlib.Core.Path.{_≡_, sym, ap, _∙_}
 use mathlib.Core.Bool.{false}
 use borrow.Author.Tests.{lt-ltb, le-ltb}
-use native.Mathlib.Omega.{arith}
 use lib.Dec.{ltb}
 use lib.ListN.{length}
 use Rattle.base.proofs.Choice.{if-true, if-false}
 use Rattle.base.proofs.Tests.{tests}
 use Rattle.deal.specs.Answers.{answerNumber}
 use Rattle.book.specs.Book.{overwrite}
-use Rattle.hadlephoga.specs.Reports.{listAfter, reportIn, reportNumbers, reportingRefusal}
+use Rattle.hadlephoga.specs.Reports.{listAfter, reportNumbers, reportingRefusal}
 use Rattle.hadlephoga.proofs.hadlephoga_report_deal.Statement.{statement}
 use Rattle.hadlephoga.proofs.hadlephoga_report_deal.Tie as tie
 

@@ -1,20 +1,17 @@
 -- `book::reading::opened` meets its contract: the answer so far and the lines to come make the whole one. Assumes nothing.
-use Prim.Native.Nat.{ℕ, _+_, _*_, _-_, _≤_, _<_}
+use Prim.Native.Nat.{ℕ, _+_, _-_, _≤_, _<_}
 use mathlib.Core.Logic.{⊎-elim}
 use mathlib.Core.Path.{_≡_, refl, sym, _∙_, ap}
-use mathlib.Core.List.{List, [], _∷_}
+use mathlib.Core.List.{List}
 use native.Mathlib.Omega.{arith}
 use borrow.Author.Tests.{ne-eqb}
 use lib.ListN.{length, take, drop, set}
 use Rattle.base.proofs.Tests.{tests}
 use Rattle.text.specs.Text.{firstLine}
 use Rattle.text.proofs.Lines.{line-part}
-use Rattle.tables.specs.Table.{table2019}
 use Rattle.valuation.specs.Exposure.{weighted}
-use Rattle.cover.specs.declared.protection.Protection.{Protection}
 use Rattle.deal.specs.Items.{guaranteeRefusal}
 use Rattle.deal.proofs.Plain.{plain-terms}
-use Rattle.relief.specs.Recognition.{protectionOf}
 use Rattle.lines.specs.Lines.{lineOf}
 use Rattle.book.specs.Answers.{withLine}
 use Rattle.book.specs.Working.{furtherRefusal}

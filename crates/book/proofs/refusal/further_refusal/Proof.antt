@@ -1,5 +1,4 @@
 -- `book::refusal::further_refusal` meets its contract: by what the line says. Assumes nothing.
-use mathlib.Core.Path.{refl}
 use Rattle.base.proofs.Tests.{tests}
 use Rattle.book.specs.Working.{furtherRefusal}
 use Rattle.book.proofs.refusal.further_refusal.Statement.{statement}

@@ -28,7 +28,7 @@ scale-requires c κs = (low c, c .before .of-period .ensures .1)
 raised-requires : tie.Need-raised-requires
 raised-requires c κs =
     let h = c .before in
-    (h .before .before .before .pre, rw (c .scale .ensures .0) (scaled-bound (low h) (h .before .of-period .ensures .1 .short)))
+    (h .before .before .before .pre, rw (c .scale .ensures) (scaled-bound (low h) (h .before .of-period .ensures .1 .short)))
 
 returns : tie.Need-returns
 returns c = search tests

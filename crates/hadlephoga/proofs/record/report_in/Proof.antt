@@ -1,8 +1,7 @@
 -- `hadlephoga::record::report_in` meets its contract: by whether there are as many numbers as a record has. Assumes nothing.
 use mathlib.Core.Path.{_∙_, sym, ap}
-use borrow.Author.Tests.{eq-eqb, ne-eqb}
-use native.Mathlib.Omega.{arith}
-use Rattle.base.proofs.Choice.{if-true, if-false}
+use borrow.Author.Tests.{eq-eqb}
+use Rattle.base.proofs.Choice.{if-true}
 use Rattle.base.proofs.Tests.{tests}
 use Rattle.relief.specs.Report.{reportOf}
 use Rattle.hadlephoga.specs.Reports.{reportIn}

@@ -10,7 +10,7 @@ use Rattle.base.proofs.Tests.{tests}
 use Rattle.result.specs.Placed.{Placed, placedAt}
 use Rattle.result.proofs.Placed.{placed-joined}
 use Rattle.book.specs.Book.{overwrite}
-use Rattle.hadlephoga.specs.Reports.{collateralNumbers, guaranteeNumbers, inOrder, reportNumbers}
+use Rattle.hadlephoga.specs.Reports.{collateralNumbers, guaranteeNumbers, reportNumbers}
 use Rattle.hadlephoga.proofs.Numbers.{length-in-order}
 use Rattle.hadlephoga.proofs.report.put_report.Statement.{statement}
 use Rattle.hadlephoga.proofs.report.put_report.Tie as tie

@@ -1,5 +1,5 @@
 -- `relief::collateral::value_collateral` meets its contract: after i items the first i places are filled, and the total is theirs. Assumes nothing.
-use Prim.Native.Nat.{ℕ, _+_, _*_, _-_, _≤_, _<_}
+use Prim.Native.Nat.{ℕ, _*_, _-_, _≤_, _<_}
 use mathlib.Core.Path.{_≡_, refl, sym, _∙_}
 use mathlib.Core.List.{List, map, _++_}
 use native.Mathlib.Nat.{le-trans}

@@ -1,5 +1,5 @@
 -- `relief::deal_amounts::amounts_of` meets its contract. Assumes nothing.
-use Prim.Native.Nat.{_*_, _-_, _≤_, min}
+use Prim.Native.Nat.{_≤_}
 use mathlib.Core.Path.{_≡_, refl, ap, _∙_}
 use native.Mathlib.Nat.{mul-le-mul}
 use native.Mathlib.Omega.{arith}

@@ -1,0 +1,49 @@
+-- Where a line ends: bytes passed one by one. Assumes nothing.
+use Prim.Native.Nat.{ℕ, zero, suc, _+_, _≤_, _<_}
+use mathlib.Core.Path.{_≡_, refl}
+use mathlib.Core.Bool.{true, false}
+use mathlib.Core.List.{List}
+use borrow.Author.Tests.{eq-eqb}
+use native.Mathlib.Omega.{arith}
+use native.Mathlib.Numerals.{add-one}
+use lib.Dec.{eqb}
+use lib.ListN.{length, drop, getD, drop-of-length-le}
+use lib.Seq.{drop-cons}
+use Rattle.base.proofs.Choice.{if-true, if-false}
+use Rattle.base.proofs.Every.{both}
+use Rattle.base.proofs.Tests.{told-not-false}
+use Rattle.text.specs.Text.{firstLine, lineFeed}
+use Rattle.text.specs.Working.{Near, unfed}
+
+module _ (text : List ℕ) (at : ℕ) where
+  pub fed : at < length text → getD text at 0 ≡ lineFeed → length (firstLine (drop at text)) ≡ 1
+  unfolding firstLine
+  fed h e = rw (drop-cons text at 0 h, eq-eqb _ _ e, if-true _ _ _ refl)
+
+  pub one-unfed : at < length text → eqb (getD text at 0) lineFeed ≡ false → length (firstLine (drop at text)) ≡ length (firstLine (drop (at + 1) text)) + 1
+  unfolding firstLine
+  one-unfed h e = rw (add-one at, drop-cons text at 0 h, e, if-false _ _ _ refl, add-one)
+
+  pub past : length text ≤ at → length (firstLine (drop at text)) ≡ 0
+  unfolding firstLine
+  past h = rw (drop-of-length-le text h)
+
+-- places in the line that starts here
+pub near-start : (text : List ℕ) (start : ℕ) → start ≤ length text → Near text start start
+near-start text start h = record { inside = h; same = refl }
+
+module _ (text : List ℕ) (start at : ℕ) (p : Near text start at) where
+  pub nearer : at < length text → eqb (getD text at 0) lineFeed ≡ false → Near text start (at + 1)
+  nearer h e = record { inside = omega arith; same = omega (arith, p .same, one-unfed text at h e) }
+
+  -- several bytes further on
+  pub nearer-by : (n : ℕ) → at + n ≤ length text → unfed n text at ≡ true → Near text start (at + n)
+  unfolding unfed
+  nearer-by zero h e = let q : at ≡ at + 0 = omega arith in rw q at p
+  nearer-by (suc n) h e =
+      let b = both (unfed n text at) _ e in
+      let q : at + n + 1 ≡ at + suc n = omega arith in
+      rw q at (nearer-at (nearer-by n (omega arith) (b .0)) (omega arith) (told-not-false _ _ refl (b .1)))
+    where
+      nearer-at : Near text start (at + n) → at + n < length text → eqb (getD text (at + n) 0) lineFeed ≡ false → Near text start (at + n + 1)
+      nearer-at r k f = record { inside = omega arith; same = omega (arith, r .same, one-unfed text (at + n) k f) }
