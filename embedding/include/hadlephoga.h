@@ -5,7 +5,7 @@
  * Link with libhadlephoga.a. Both calls take any bytes and any numbers: the
  * answer to every input is a figure or a refusal by number. A pointer is not
  * null, points to as many bytes or numbers as the length beside it says, and
- * no list that is written overlaps another one. The library holds no state and
+ * nothing that is written overlaps anything else that is passed. The library holds no state and
  * allocates nothing, so calls may run side by side in any number of threads.
  */
 #ifndef HADLEPHOGA_H
@@ -41,11 +41,12 @@ uint64_t hadlephoga_answer_book(const uint8_t *book, size_t book_length,
                                 uint64_t *deals);
 
 /*
- * Reports one deal. Returns
+ * Reports one deal. Returns the first that applies:
  *
  *   13  report_length is below 83: nothing is written
  *   40  record_length is not 332, a list count is above sixteen, or a field of
- *       the deal or of a counted item is out of range: 83 zeros are written
+ *       the deal or of a counted item is one that a line of a book would be
+ *       refused for (1 to 5, 7, 8): 83 zeros are written
  *    0  otherwise: the 83 numbers of the report are written
  *
  * record has the layout of struct hadlephoga_deal, report that of struct
@@ -53,6 +54,12 @@ uint64_t hadlephoga_answer_book(const uint8_t *book, size_t book_length,
  */
 uint64_t hadlephoga_report_deal(const uint64_t *record, size_t record_length,
                                 uint64_t *report, size_t report_length);
+
+/* Refusals of a line of a book: 11 malformed (unknown letter, wrong number of
+ * fields, bad number, no line feed), before all others; 6 that list is full; 1
+ * amount over the limit; 2 unknown class, kind or type; 3 step above 6, or not 0
+ * where 0 is due; 4 currency; 5 interval, term or issue life outside its range; 7
+ * residual term above original; 8 a condition neither 0 nor 1. */
 
 /* The answer to a deal of a book. */
 struct hadlephoga_answer {
@@ -63,8 +70,8 @@ struct hadlephoga_answer {
 };
 
 /* An amount is 0 to 1,000,000,000,000; a step 1 to 6, or 0 unrated; a currency
- * its ISO 4217 number; a term or life 1 to 36,000 days; a condition 1 met or 0
- * not met. */
+ * its ISO 4217 number, 1 to 999; a term or life 1 to 36,000 days, an item's
+ * residual term not above its original one; a condition 1 met or 0 not met. */
 
 /* Goods: 1 cash, 2 sovereign debt, 3 other issuers' debt, 4 bank debt, 5
  * securitisation, 6 re-securitisation, 7 main index equity, 8 other listed
@@ -144,7 +151,7 @@ struct hadlephoga_report {
   uint64_t weighted_amount;
 };
 
-/* The structs are their numbers, one behind the other. C99 cannot say so. */
+/* The structs are their numbers, one behind the other. C99 has no static assertion to check it. */
 #if defined(__cplusplus) && __cplusplus >= 201103L
 #define HADLEPHOGA_ASSERT static_assert
 #elif defined(__STDC_VERSION__) && __STDC_VERSION__ >= 201112L

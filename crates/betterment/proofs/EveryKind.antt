@@ -116,6 +116,10 @@ module _ (t : Terms) (cs : List Collateral) (gs : List Guarantee) where
 pub any-record : (d d′ : Deal) → Better (viewOf d) (viewOf d′) → accepted d′ ≡ true → Betterments d d′
 any-record d d′ b e = Betterments.made b e Betterments.no-more
 
+-- and none, where a record holds the same fields and items otherwise
+pub any-holding : (d d′ : Deal) → viewOf d ≡ viewOf d′ → accepted d′ ≡ true → Betterments d d′
+any-holding d d′ same e = Betterments.held-otherwise same e Betterments.no-more
+
 -- one refused
 pub any-refused : (d : Deal) (v : View) → Better (viewOf d) v → acceptedView v ≡ false → Betterments d d
 any-refused d v b e = Betterments.refused v b e Betterments.no-more

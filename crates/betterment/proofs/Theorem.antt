@@ -1,6 +1,6 @@
 -- The rule on betterments (the letter's third demand). Assumes nothing.
 use Prim.Native.Nat.{_≤_}
-use mathlib.Core.Path.{_≡_}
+use mathlib.Core.Path.{_≡_, ap}
 use mathlib.Core.Bool.{true}
 use native.Mathlib.Omega.{arith}
 use native.Mathlib.Nat.{not-suc-le-zero}
@@ -10,6 +10,7 @@ use Rattle.deal.specs.Items.{countedCollateral, countedGuarantees}
 use Rattle.deal.specs.Deals.{accepted, withoutProtection}
 use Rattle.deal.proofs.Exact.{accepted-fits, fits-accepted}
 use Rattle.deal.specs.declared.deal.Deal.{Deal}
+use Rattle.relief.specs.Exposure.{weightedAmount}
 use Rattle.relief.specs.Report.{reportUnder, reportOf}
 use Rattle.relief.proofs.Amounts.{no-higher-than-without}
 use Rattle.relief.proofs.Reports.{weighted-of}
@@ -21,6 +22,7 @@ use Rattle.betterment.proofs.Steps.{better-lowers}
 -- every deal reached from an accepted one is accepted
 pub reached-accepted : {d e : Deal} → accepted d ≡ true → Betterments d e → accepted e ≡ true
 reached-accepted a Betterments.no-more = a
+reached-accepted a (Betterments.held-otherwise same a′ l) = reached-accepted a′ l
 reached-accepted a (Betterments.made b a′ l) = reached-accepted a′ l
 reached-accepted a (Betterments.refused proposed b r l) = reached-accepted a l
 
@@ -39,6 +41,9 @@ module _ {table : Table} (laws : TableLaws table) where
   -- than before
   no-higher-than-before : {d e : Deal} → accepted d ≡ true → Betterments d e → reportUnder table e .weighted ≤ reportUnder table d .weighted
   no-higher-than-before {d} a Betterments.no-more = omega arith
+  no-higher-than-before {d} {e} a (Betterments.held-otherwise {d′ = d′} same a′ l) =
+      let equal = ap (λ v. weightedAmount table (v .terms) (v .collateral) (v .guarantees)) same in
+      omega (arith, no-higher-than-before a′ l, weighted-of table d a, weighted-of table d′ a′, equal)
   no-higher-than-before {d} {e} a (Betterments.made {d′ = d′} b a′ l) =
       let one = better-lowers laws (viewOf d) (viewOf d′) b (accepted-view d a) (accepted-view d′ a′) in
       omega (arith, no-higher-than-before a′ l, weighted-of table d a, weighted-of table d′ a′, one)

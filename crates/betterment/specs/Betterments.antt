@@ -73,6 +73,8 @@ pub data Better : View → View → Type 0 where
 -- item on a full list included; the deal then stays as it was and the next one follows. Each meets the deal that the one before it left"
 pub data Betterments : Deal → Deal → Type 0 where
   no-more : {d : Deal} → Betterments d d
+  -- "unchanged is said of its fields and items, not of how a record holds them"
+  held-otherwise : {d d′ e : Deal} → viewOf d ≡ viewOf d′ → accepted d′ ≡ true → Betterments d′ e → Betterments d e
   made : {d d′ e : Deal} → Better (viewOf d) (viewOf d′) → accepted d′ ≡ true → Betterments d′ e → Betterments d e
   refused : {d e : Deal} (proposed : View) → Better (viewOf d) proposed → acceptedView proposed ≡ false → Betterments d e → Betterments d e
 

@@ -52,7 +52,7 @@ withLine d Malformed = d
 unfoldable pub refusedAt : ℕ → ℕ → List ℕ
 refusedAt refusal number = refusal ∷ number ∷ 0 ∷ []
 
--- an accepted deal's (`each-answered`), so that nothing is reported as zeros for a refusal of its own
+-- of an accepted deal, as it always is here (`each-answered`), so that the zeros beside a 40 never stand for figures
 unfoldable pub reported : Deal → List ℕ
 reported d = 0 ∷ reportOf d .exposure ∷ reportOf d .weighted ∷ []
 

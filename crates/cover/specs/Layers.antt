@@ -11,7 +11,7 @@ abbrev pub Each : {A : Type 0} → (A → Type 0) → List A → Type 0
 Each P [] = Unit {0}
 Each P (x ∷ xs) = P x × Each P xs
 
--- a piece that is left out, or weighs less than the counterparty
+-- a guarantee that is worth 0, as one left out is, or that has a lower weight than the counterparty
 abbrev pub LeftOutOrLighter : ℕ → Protection → Type 0
 LeftOutOrLighter W p = (p .value ≡ 0) ⊎ (p .weight < W)
 

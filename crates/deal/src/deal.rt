@@ -86,7 +86,7 @@ impl Deal {
         Reply { answer, deal }
     }
 
-    // Whether this is a record to work with: no count too high, no field that opening or adding would refuse.
+    // Whether this is an accepted record: no count too high, no field that opening or adding would refuse.
     pub fn accepted(self) -> bool
         ensures { λ r. ⌜ r ≡ acceptedOf self ⌝ }
     {

@@ -1,5 +1,5 @@
 // A deal's record, and the operations that make one: opening it, adding collateral, adding a guarantee.
-// A record may come from anywhere and hold any numbers; `Deal::accepted` tells whether it is one to work with.
+// A record may come from anywhere and hold any numbers; `Deal::accepted` tells whether it is one that operations accept.
 pub mod answer;
 pub mod asset;
 pub mod collateral;

@@ -44,7 +44,7 @@ abroad = 840
 abbrev loan : ℕ → ℕ → Terms
 loan amount interval = termsOf amount 3 0 home securedLending interval 1800 cash 0 0
 
--- repo-style lending of other listed equity, revalued every six days
+-- repo-style lending of other listed equity, revalued every six business days
 abbrev repo : Terms
 repo = termsOf 100 3 0 home repoStyle 6 1800 otherListedEquity 0 0
 

@@ -15,7 +15,8 @@ pieces width (suc k) numbers = take width numbers ∷ pieces width k (drop width
 abbrev pub recordLength : ℕ
 recordLength = 332
 
--- the record that these numbers are, where there are so many
+-- the record that these 332 numbers are. From place 0: the terms; at 10 the count of collateral, from 11 to 186 its items; at 187 the count
+-- of guarantees, from 188 to 331 its items
 unfoldable pub dealIn : List ℕ → Deal
 dealIn numbers = record {
   terms = termsIn (take 10 numbers);

@@ -18,7 +18,7 @@ unfoldable pub inOrder : {A : Type 0} → (A → List ℕ) → List A → List �
 inOrder f [] = []
 inOrder f (x ∷ xs) = f x ++ inOrder f xs
 
--- "for each item either its value or its ground": the value and the ground's number, one of which is 0
+-- "for each item either its value or its ground": the value and the ground's number, at most one of which is not 0
 abbrev pub collateralNumbers : CollateralReport → List ℕ
 collateralNumbers c = outcomeValue (c .outcome) ∷ outcomeGround (c .outcome) ∷ []
 
@@ -34,11 +34,13 @@ unfoldable pub reportNumbers : Report → List ℕ
 reportNumbers r =
     r .exposure ∷ (inOrder collateralNumbers (r .collateral) ++ inOrder guaranteeNumbers (r .guarantees) ++ r .rest ∷ r .weighted ∷ [])
 
--- numbers that are no record get the reply of a record that is not accepted
+-- Of lists of another length than a record's or a report's the paper says nothing. Here numbers that are no record get the reply of a
+-- record that is not accepted
 unfoldable pub reportIn : List ℕ → Report
 reportIn numbers = if eqb (length numbers) recordLength then reportOf (dealIn numbers) else refusedReport
 
--- 13 where the lent list has fewer places than a report has numbers, otherwise what reporting answers
+-- and a lent list that has fewer places than a report has numbers is 13, as one that is too short for a book's answers; otherwise what
+-- reporting answers
 unfoldable pub reportingRefusal : List ℕ → ℕ → ℕ
 reportingRefusal numbers places = if ltb places reportLength then 13 else answerNumber (reportIn numbers .answer)
 

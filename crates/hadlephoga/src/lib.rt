@@ -27,7 +27,7 @@ pub extern "C" fn hadlephoga_answer_book(book: &[u8], results: &mut [u64], deals
     reply.refusal
 }
 
-// Reporting a deal: the refusal or 0, and the report's numbers in the list.
+// Reporting a deal: 13 where the list is too short for a report, otherwise the refusal or 0, and the report's numbers in the list.
 #[no_mangle]
 pub extern "C" fn hadlephoga_report_deal(numbers: &[u64], report: &mut [u64]) -> u64
     ensures { λ r. ⌜ r ≡ reportingRefusal (now (numbers .entry)) (length (now (report .entry))) ⌝ }

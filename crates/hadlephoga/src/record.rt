@@ -84,7 +84,7 @@ fn deal_in(numbers: &[u64]) -> Deal
     }
 }
 
-// The report of the deal that these numbers are; of a record that is not accepted, where they are none.
+// The report of the record that these numbers are; where they are not 332, the reply to a record that is not accepted.
 pub fn report_in(numbers: &[u64]) -> Report
     ensures { λ r. ⌜ r ≡ reportIn (now (numbers .entry)) ⌝ }
 {

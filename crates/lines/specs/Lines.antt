@@ -30,9 +30,8 @@ ifRead said (some fields) = said fields
 unfoldable pub ifHeld : (List ℕ → Line) → Fields → Line
 ifHeld said fields = if fields .read then said (fields .values) else Malformed
 
--- "lines D, C, G, each its letter and the fields in the order above (11, 12 and 10 fields with the letter)", which is not
--- counted here. Malformed: "unknown
--- letter, wrong number of fields, bad number, or no line feed"
+-- "lines D, C, G, each its letter and the fields in the order above (11, 12 and 10 fields with the letter)"; the widths here leave the
+-- letter out. Malformed: "unknown letter, wrong number of fields, bad number, or no line feed"
 unfoldable pub lineOf : List ℕ → Line
 lineOf [] = Malformed
 lineOf (letter ∷ rest) =

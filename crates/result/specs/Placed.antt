@@ -1,4 +1,4 @@
--- A text written into a lent buffer.
+-- Bytes or numbers written into a lent list: a text into a buffer, figures into a list of results.
 use Prim.Native.Nat.{ℕ, _+_}
 use mathlib.Core.Path.{_≡_}
 use mathlib.Core.List.{List, _++_}

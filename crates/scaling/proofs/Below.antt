@@ -39,4 +39,4 @@ share-too-small H n w c h k e q = go (decLe (H * H * n) (10 * c * c))
 
 -- a root of no period
 pub root-none : Rooted (record { period = 0; whole = 0 })
-root-none = record { short = omega arith; figured = omega (arith, scaled-le 1000000 0 {b = 0} (omega arith)) }
+root-none = record { short = omega arith; scaled-whole = omega (arith, scaled-le 1000000 0 {b = 0} (omega arith)) }

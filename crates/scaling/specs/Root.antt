@@ -4,7 +4,7 @@ use mathlib.Core.Path.{_≡_}
 use Rattle.scaling.specs.Scaling.{scaled}
 use Rattle.scaling.specs.declared.root.Root.{Root}
 
--- the whole is scaled to the period; the program has room for periods up to 1,000, and none is above 269
+-- `whole` is 1,000,000 scaled to the period; the program has room for periods up to 1,000, and none is above 269
 pub record Rooted (r : Root) : Type 0 where
   pub short : r .period ≤ 1000
-  pub figured : r .whole ≡ scaled 1000000 (r .period)
+  pub scaled-whole : r .whole ≡ scaled 1000000 (r .period)

@@ -16,7 +16,7 @@ unfoldable pub equityOrGold : ℕ → Bool
 equityOrGold goods = eqb goods mainIndexEquity || eqb goods otherListedEquity || eqb goods gold
 
 -- goods of this type and step; listed is 1 where the condition "listed senior bank paper" is met.
--- A re-securitisation never is. CRE22.38
+-- A re-securitisation is never eligible. CRE22.38
 unfoldable pub eligible : ℕ → ℕ → ℕ → Bool
 eligible goods step listed =
     if eqb goods cash then true else

@@ -13,16 +13,16 @@ use Rattle.base.proofs.Choice.{if-true, if-false}
 use Rattle.base.proofs.Every.{both}
 use Rattle.base.proofs.Tests.{told-not-false}
 use Rattle.text.specs.Text.{firstLine, lineFeed}
-use Rattle.text.specs.Working.{Near, unfed}
+use Rattle.text.specs.Working.{Near, noFeeds}
 
 module _ (text : List ℕ) (at : ℕ) where
   pub fed : at < length text → getD text at 0 ≡ lineFeed → length (firstLine (drop at text)) ≡ 1
   unfolding firstLine
   fed h e = rw (drop-cons text at 0 h, eq-eqb _ _ e, if-true _ _ _ refl)
 
-  pub one-unfed : at < length text → eqb (getD text at 0) lineFeed ≡ false → length (firstLine (drop at text)) ≡ length (firstLine (drop (at + 1) text)) + 1
+  pub no-feed : at < length text → eqb (getD text at 0) lineFeed ≡ false → length (firstLine (drop at text)) ≡ length (firstLine (drop (at + 1) text)) + 1
   unfolding firstLine
-  one-unfed h e = rw (add-one at, drop-cons text at 0 h, e, if-false _ _ _ refl, add-one)
+  no-feed h e = rw (add-one at, drop-cons text at 0 h, e, if-false _ _ _ refl, add-one)
 
   pub past : length text ≤ at → length (firstLine (drop at text)) ≡ 0
   unfolding firstLine
@@ -34,16 +34,16 @@ near-start text start h = record { inside = h; same = refl }
 
 module _ (text : List ℕ) (start at : ℕ) (p : Near text start at) where
   pub nearer : at < length text → eqb (getD text at 0) lineFeed ≡ false → Near text start (at + 1)
-  nearer h e = record { inside = omega arith; same = omega (arith, p .same, one-unfed text at h e) }
+  nearer h e = record { inside = omega arith; same = omega (arith, p .same, no-feed text at h e) }
 
   -- several bytes further on
-  pub nearer-by : (n : ℕ) → at + n ≤ length text → unfed n text at ≡ true → Near text start (at + n)
-  unfolding unfed
+  pub nearer-by : (n : ℕ) → at + n ≤ length text → noFeeds n text at ≡ true → Near text start (at + n)
+  unfolding noFeeds
   nearer-by zero h e = let q : at ≡ at + 0 = omega arith in rw q at p
   nearer-by (suc n) h e =
-      let b = both (unfed n text at) _ e in
+      let b = both (noFeeds n text at) _ e in
       let q : at + n + 1 ≡ at + suc n = omega arith in
       rw q at (nearer-at (nearer-by n (omega arith) (b .0)) (omega arith) (told-not-false _ _ refl (b .1)))
     where
       nearer-at : Near text start (at + n) → at + n < length text → eqb (getD text (at + n) 0) lineFeed ≡ false → Near text start (at + n + 1)
-      nearer-at r k f = record { inside = omega arith; same = omega (arith, r .same, one-unfed text (at + n) k f) }
+      nearer-at r k f = record { inside = omega arith; same = omega (arith, r .same, no-feed text (at + n) k f) }

@@ -3,7 +3,7 @@ ghost use mathlib.Core.Path.{_≡_};
 ghost use Prim.Native.Nat.{_+_, _≤_};
 ghost use lib.ListN.{drop, length};
 ghost use Rattle.text.specs.Text.{firstLine, startsWith};
-ghost use Rattle.text.specs.Working.{Near, unfed};
+ghost use Rattle.text.specs.Working.{Near, noFeeds};
 
 pub const TAB: u8 = 9;
 
@@ -27,9 +27,9 @@ pub fn starts_with(text: &[u8], prefix: &[u8]) -> bool
 }
 
 // Whether none of the eight bytes from here on is a line feed. Without branches, so that they are compared at once.
-fn eight_unfed(text: &[u8], at: usize) -> bool
+fn no_feed_in_eight(text: &[u8], at: usize) -> bool
     requires { ⌜ at + 8 ≤ length (now text) ⌝ }
-    ensures { λ r. ⌜ r ≡ unfed 8 (now (text .entry)) at ⌝ }
+    ensures { λ r. ⌜ r ≡ noFeeds 8 (now (text .entry)) at ⌝ }
 {
     (text[at] != LINE_FEED)
         & (text[at + 1] != LINE_FEED)
@@ -48,7 +48,7 @@ fn near_end(text: &[u8], start: usize) -> usize
 {
     let mut at: usize = start;
     while text.len() - at >= 8 {
-        if !eight_unfed(text, at) {
+        if !no_feed_in_eight(text, at) {
             return at;
         }
         at += 8;

@@ -20,8 +20,8 @@ loop-holds c = near-start _ _ (c .before .pre)
 sub-loop : tie.Need-sub-loop Inv-loop μ-loop
 sub-loop c = c .loop .inv .inside
 
-eight-unfed-requires : tie.Need-eight-unfed-requires Inv-loop μ-loop
-eight-unfed-requires c κs = omega (arith, c .before .loop .inv .inside)
+no-feed-in-eight-requires : tie.Need-no-feed-in-eight-requires Inv-loop μ-loop
+no-feed-in-eight-requires c κs = omega (arith, c .before .loop .inv .inside)
 
 returns : tie.Need-returns Inv-loop μ-loop
 returns c = c .before .before .before .loop .inv
@@ -35,7 +35,7 @@ loop-less c = omega (arith, c .before .before .before .loop .inv .inside, c .bef
 loop-again : tie.Need-loop-again Inv-loop μ-loop
 loop-again c =
     let l = c .before .before .before in
-    nearer-by _ _ (l .loop .at) (l .loop .inv) 8 (omega (arith, l .loop .inv .inside, c .before .before .loop-test .taken)) (told-not-true _ _ (c .before .eight-unfed .ensures) (c .if1 .left))
+    nearer-by _ _ (l .loop .at) (l .loop .inv) 8 (omega (arith, l .loop .inv .inside, c .before .before .loop-test .taken)) (told-not-true _ _ (c .before .no-feed-in-eight .ensures) (c .if1 .left))
 
 returns-2 : tie.Need-returns-2 Inv-loop μ-loop
 returns-2 c = c .before .loop .inv
@@ -48,7 +48,7 @@ near-end-spec =
     μ-loop
     loop-holds
     sub-loop
-    eight-unfed-requires
+    no-feed-in-eight-requires
     returns
     add-at
     loop-less

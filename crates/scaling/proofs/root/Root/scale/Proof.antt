@@ -49,11 +49,11 @@ module _ (c : tie.After-struct-known2 Inv-loop μ-loop) where
   somes = both-some (start .args .haircut) (start .args .self .period) (omega (arith, c .before .if1 .left))
 
   least : 1 ≤ start .args .self .whole
-  least = omega (arith, start .pre .1 .figured, whole-some (start .args .self .period) (somes .1))
+  least = omega (arith, start .pre .1 .scaled-whole, whole-some (start .args .self .period) (somes .1))
 
   product : start .args .haircut * (start .args .self .whole - 1) ≤ 1000000 * 10000000
   product =
-      let b : start .args .self .whole - 1 ≤ 10000000 = omega (arith, start .pre .1 .figured, scaled-bound {H = 1000000} {n = start .args .self .period} (omega arith) (start .pre .1 .short)) in
+      let b : start .args .self .whole - 1 ≤ 10000000 = omega (arith, start .pre .1 .scaled-whole, scaled-bound {H = 1000000} {n = start .args .self .period} (omega arith) (start .pre .1 .short)) in
       mul-le-mul (start .pre .0) b
 
 sub-h : tie.Need-sub-h Inv-loop μ-loop
@@ -69,7 +69,7 @@ loop-holds : tie.Need-loop-holds Inv-loop μ-loop
 loop-holds c =
     let a = start c .args in
     let q : a .haircut * (a .self .whole - 1) / 1000000 + 1 - 1 ≡ a .haircut * (a .self .whole - 1) / 1000000 = omega arith in
-    (omega arith, share-too-small (a .haircut) (a .self .period) (a .self .whole) _ (somes c .0) (somes c .1) (start c .pre .1 .figured) q)
+    (omega arith, share-too-small (a .haircut) (a .self .period) (a .self .whole) _ (somes c .0) (somes c .1) (start c .pre .1 .scaled-whole) q)
 
 bound : (c : tie.At-loop Inv-loop μ-loop) → c .loop .h ≤ 10000000
 bound c = tried _ (c .loop .h) (high (start (c .before))) (c .loop .inv)

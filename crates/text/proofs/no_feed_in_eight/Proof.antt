@@ -1,9 +1,9 @@
--- `text::eight_unfed` meets its contract. Assumes nothing.
+-- `text::no_feed_in_eight` meets its contract. Assumes nothing.
 use native.Mathlib.Nat.{add-zero}
-use Rattle.text.specs.Working.{unfed}
+use Rattle.text.specs.Working.{noFeeds}
 use Rattle.base.proofs.Tests.{tests}
-use Rattle.text.proofs.eight_unfed.Statement.{statement}
-use Rattle.text.proofs.eight_unfed.Tie as tie
+use Rattle.text.proofs.no_feed_in_eight.Statement.{statement}
+use Rattle.text.proofs.no_feed_in_eight.Tie as tie
 
 shared-slice-read-result : tie.Need-shared-slice-read-result
 shared-slice-read-result c = search tests
@@ -51,11 +51,11 @@ shared-slice-read-result-8 : tie.Need-shared-slice-read-result-8
 shared-slice-read-result-8 c = search tests
 
 returns : tie.Need-returns
-unfolding unfed
+unfolding noFeeds
 returns c = rw (add-zero (c .before .before .before .before .before .before .before .before .args .at))
 
-pub eight-unfed-spec : {M : Type 1} → statement M
-eight-unfed-spec =
+pub no-feed-in-eight-spec : {M : Type 1} → statement M
+no-feed-in-eight-spec =
     tie.close
     (tie.spec
     shared-slice-read-result
