@@ -99,3 +99,8 @@ first-refused = refl
 opens-only : (only tab (λ b. opensDeal (byte "D" ∷ b ∷ [])) ≡ true) × (only (byte "D") (λ b. opensDeal (b ∷ tab ∷ [])) ≡ true)
 unfolding worked
 opens-only = (refl, refl)
+
+-- 65,536 bytes are looked at further, one more is too long
+limit-of-bytes : (bookReply (replicate 65536 0) 0 ≡ refusedBy 9) × (bookReply (replicate 65537 0) 0 ≡ refusedBy 10)
+unfolding worked
+limit-of-bytes = (refl, refl)

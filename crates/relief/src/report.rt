@@ -57,7 +57,7 @@ pub fn refused() -> Report
     }
 }
 
-pub fn full_report(terms: Terms, collateral: CollateralList, guarantees: GuaranteeList) -> Report
+fn full_report(terms: Terms, collateral: CollateralList, guarantees: GuaranteeList) -> Report
     requires { ⌜ (termsRefusal terms ≡ 0) × ((collateralListAllowed collateral ≡ true) × (guaranteeListAllowed guarantees ≡ true)) ⌝ }
     ensures { λ r. ⌜ r ≡ fullReport table2019 terms (countedCollateral collateral) (countedGuarantees guarantees) ⌝ }
 {
