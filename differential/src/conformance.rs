@@ -12,12 +12,15 @@ use crate::sides::Side;
 const PRINTED_DEALS: usize = 2048;
 /// What every name in the index has.
 const PARTS: [&str; 3] = ["book", "answer", "md"];
+/// What is said of the whole set.
+const ABOUT: &str = "README.md";
 
 pub fn run(folder: &Path) -> Result<(), String> {
     let index = read(&folder.join("index"))?;
     let index = String::from_utf8(index).map_err(|_| "the index is no text".to_string())?;
-    let names: Vec<&str> = index.lines().filter(|name| !name.is_empty()).collect();
-    let mut wrong = misplaced(folder, &names)?;
+    let names: Vec<&str> = index.lines().collect();
+    let mut wrong = malformed(&index);
+    wrong.extend(misplaced(folder, &names)?);
     for name in &names {
         let stored = |part: &str| read(&folder.join(format!("{name}.{part}")));
         let (Ok(book), Ok(answer)) = (stored("book"), stored("answer")) else {
@@ -49,15 +52,37 @@ fn read(file: &Path) -> Result<Vec<u8>, String> {
     fs::read(file).map_err(|error| format!("{}: {error}", file.display()))
 }
 
-/// Names twice in the index, files that are missing, and files of no name.
+/// What keeps a reader of lines from the names of the index: a last line that
+/// is not ended is dropped by some, a carriage return is part of the name to some.
+fn malformed(index: &str) -> Vec<String> {
+    let mut wrong = Vec::new();
+    if !index.ends_with('\n') {
+        wrong.push("the index does not end in a line feed".to_string());
+    }
+    if index.contains('\r') {
+        wrong.push("the index has a carriage return".to_string());
+    }
+    if index.lines().any(str::is_empty) {
+        wrong.push("the index has an empty line".to_string());
+    }
+    wrong
+}
+
+/// Names twice in the index, files that are missing, files of no name, and
+/// comments that say nothing.
 fn misplaced(folder: &Path, names: &[&str]) -> Result<Vec<String>, String> {
     let mut wrong = Vec::new();
     let mut due = BTreeSet::new();
     for name in names {
         for part in PARTS {
             let file = format!("{name}.{part}");
-            if !folder.join(&file).is_file() {
-                wrong.push(format!("{file} is missing"));
+            match fs::metadata(folder.join(&file)) {
+                Ok(found) if found.is_file() => {
+                    if part == "md" && found.len() == 0 {
+                        wrong.push(format!("{file} is empty"));
+                    }
+                }
+                _ => wrong.push(format!("{file} is missing")),
             }
             if !due.insert(file) && part == PARTS[0] {
                 wrong.push(format!("{name} stands twice in the index"));
@@ -69,7 +94,8 @@ fn misplaced(folder: &Path, names: &[&str]) -> Result<Vec<String>, String> {
         let file = entry.map_err(|error| error.to_string())?.file_name();
         let file = file.to_string_lossy().into_owned();
         let part = file.rsplit_once('.').map(|(_, part)| part);
-        if matches!(part, Some("book" | "answer")) && !due.contains(&file) {
+        let of_a_book = part.is_some_and(|part| PARTS.contains(&part)) && file != ABOUT;
+        if of_a_book && !due.contains(&file) {
             wrong.push(format!("{file} is not in the index"));
         }
     }
@@ -122,6 +148,8 @@ fn printed(reply: BookReply, results: &[u64]) -> Vec<u8> {
 
 #[cfg(test)]
 mod tests {
+    use std::path::PathBuf;
+
     use super::*;
 
     #[test]
@@ -143,6 +171,104 @@ mod tests {
         for number in 0..300 {
             let book = crate::books::book(11, number).bytes;
             assert_eq!(proved_prints(&book), reference::printed(&book));
+        }
+    }
+
+    /// A folder with two books, removed at the end of its test.
+    struct Folder(PathBuf);
+
+    impl Folder {
+        fn new(name: &str) -> Self {
+            let id = std::process::id();
+            let folder = Folder(std::env::temp_dir().join(format!("differential-{name}-{id}")));
+            fs::create_dir_all(&folder.0).expect("a new folder");
+            folder.write("index", b"one\ntwo\n");
+            folder.write("README.md", b"Two books.\n");
+            for name in ["one", "two"] {
+                folder.write(
+                    &format!("{name}.book"),
+                    b"CRM\t1\nD\t900\t4\t0\t978\t3\t1\t90\t1\t0\t0\n",
+                );
+                folder.write(&format!("{name}.answer"), b"RESULT\t1\n1\t0\t900\t675\n");
+                folder.write(&format!("{name}.md"), b"Retail.\n");
+            }
+            folder
+        }
+
+        fn write(&self, file: &str, bytes: &[u8]) {
+            fs::write(self.0.join(file), bytes).expect("a file is written");
+        }
+
+        /// What is wrong once a file is written (or, without bytes, removed).
+        fn wrong(name: &str, file: &str, bytes: Option<&[u8]>) -> String {
+            let folder = Folder::new(name);
+            assert_eq!(run(&folder.0), Ok(()));
+            match bytes {
+                Some(bytes) => folder.write(file, bytes),
+                None => fs::remove_file(folder.0.join(file)).expect("a file is removed"),
+            }
+            run(&folder.0).expect_err("a wrong set passes")
+        }
+    }
+
+    impl Drop for Folder {
+        fn drop(&mut self) {
+            let _ = fs::remove_dir_all(&self.0);
+        }
+    }
+
+    #[test]
+    fn wrong_answers() {
+        for answer in [
+            b"RESULT\t1\n1\t0\t900\t674\n" as &[u8],
+            b"RESULT\t1\n1\t0\t900\t675",
+            b"RESULT\t1\n1\t0\t900\t675\n\n",
+            b"RESULT\t1\r\n1\t0\t900\t675\n",
+            b"RESULT\t1\n",
+            b"",
+        ] {
+            let wrong = Folder::wrong("answers", "two.answer", Some(answer));
+            assert!(wrong.contains("two: proved prints"), "{wrong}");
+            assert!(wrong.contains("two: reference prints"), "{wrong}");
+            assert!(!wrong.contains("one"), "{wrong}");
+        }
+    }
+
+    #[test]
+    fn missing_files() {
+        for file in ["two.book", "two.answer", "two.md"] {
+            let wrong = Folder::wrong("missing", file, None);
+            assert_eq!(wrong, format!("{file} is missing"));
+        }
+        assert!(Folder::wrong("missing", "index", None).contains("index: "));
+    }
+
+    #[test]
+    fn files_of_no_name() {
+        for file in ["three.book", "three.answer", "three.md"] {
+            let wrong = Folder::wrong("unlisted", file, Some(b"x"));
+            assert_eq!(wrong, format!("{file} is not in the index"));
+        }
+        let wrong = Folder::wrong("unlisted", "two.md", Some(b""));
+        assert_eq!(wrong, "two.md is empty");
+    }
+
+    #[test]
+    fn wrong_indexes() {
+        for (index, due) in [
+            (b"one\ntwo" as &[u8], "not end in a line feed"),
+            (b"one\n\ntwo\n", "an empty line"),
+            (b"one\ntwo\n\n", "an empty line"),
+            (b"one\r\ntwo\r\n", "a carriage return"),
+            (b"one\n", "two.book is not in the index"),
+            (b"one\ntwo\none\n", "one stands twice"),
+            (b"one\ntwo \n", "two .book is missing"),
+            (b"one\ntwo\nthree\n", "three.book is missing"),
+            (b"", "names no book"),
+            (b"one\ntwo\n\xff\n", "no text"),
+        ] {
+            let wrong = Folder::wrong("indexes", "index", Some(index));
+            assert!(wrong.contains(due), "{wrong}");
         }
     }
 

@@ -1,6 +1,6 @@
 //! Answers the sample book of document 01 and reports a deal of its own.
 
-use hadlephoga::{answer_book, report, Collateral, Outcome, Record, Refusal, Terms};
+use hadlephoga::{answer_book, report, Collateral, Outcome, Record, Refusal, Terms, ANSWER_LENGTH};
 
 const SAMPLE: &[u8] = b"CRM\t1\n\
     D\t1000000\t3\t0\t978\t3\t1\t1800\t1\t0\t0\n\
@@ -10,9 +10,9 @@ const SAMPLE: &[u8] = b"CRM\t1\n\
     D\t900\t4\t0\t978\t3\t1\t90\t1\t0\t0\n";
 
 fn main() -> Result<(), Refusal> {
-    let mut results = [0; 4 * 8];
+    let mut results = [0; ANSWER_LENGTH * 8];
     let deals = answer_book(SAMPLE, &mut results)?;
-    for answer in results.chunks_exact(4).take(deals) {
+    for answer in results.chunks_exact(ANSWER_LENGTH).take(deals) {
         match answer[1] {
             0 => println!(
                 "deal {}: E* {}, weighted amount {}",

@@ -1,7 +1,7 @@
 //! Books, their refusals, and lists of every length.
 
 use crate::sample::{SAMPLE, SAMPLE_RESULTS};
-use hadlephoga::{answer_book, answer_book_numbers, BookReply, Refusal, BOOK_LIMIT};
+use hadlephoga::{answer_book, answer_book_numbers, BookReply, Refusal, ANSWER_LENGTH, BOOK_LIMIT};
 
 const MARK: u64 = 0xA5A5_A5A5_A5A5_A5A5;
 
@@ -17,6 +17,7 @@ fn refused(book: &[u8], length: usize) -> u64 {
 
 #[test]
 fn sample_with_lists_of_every_length() {
+    assert_eq!(ANSWER_LENGTH * 3, 12);
     for length in 0..12 {
         assert_eq!(refused(SAMPLE, length), 13);
     }
@@ -80,9 +81,4 @@ fn every_line_opening_a_deal_needs_four_numbers() {
     let mut results = [MARK; 9];
     assert_eq!(answer_book(book, &mut results), Ok(2));
     assert_eq!(results, [1, 11, 2, 0, 2, 11, 4, 0, MARK]);
-}
-
-#[test]
-fn refusals_have_words() {
-    assert_eq!(Refusal(13).to_string(), "refusal 13: list too short");
 }

@@ -3,6 +3,7 @@
 
 mod books;
 mod figures;
+mod grounds;
 mod records;
 mod sample;
 mod threads;

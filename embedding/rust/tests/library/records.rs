@@ -1,9 +1,10 @@
 //! Records of any numbers, and record and report lists of any length.
 
 use crate::sample::{CASH, GUARANTEE, LOAN};
+use hadlephoga::Outcome::{LeftOut, Valued};
 use hadlephoga::{
-    report, report_numbers, Collateral, Guarantee, Record, Refusal, Report, Terms, ITEMS,
-    RECORD_LENGTH, REPORT_LENGTH,
+    report, report_numbers, Collateral, Cover, Ground, Guarantee, Record, Refusal, Report, Terms,
+    ITEMS, RECORD_LENGTH, REPORT_LENGTH,
 };
 
 const MARK: u64 = 0xA5A5_A5A5_A5A5_A5A5;
@@ -22,14 +23,74 @@ fn layout() {
     assert_eq!(REPORT_LENGTH, 83);
     let numbers = std::array::from_fn(|place| place as u64 + 1);
     let record = Record::from_numbers(&numbers);
-    assert_eq!(record.terms.lent_issue_life, 10);
+    let terms = Terms {
+        amount: 1,
+        class: 2,
+        step: 3,
+        currency: 4,
+        kind: 5,
+        interval: 6,
+        residual_term: 7,
+        lent_type: 8,
+        lent_step: 9,
+        lent_issue_life: 10,
+    };
+    assert_eq!(record.terms, terms);
     assert_eq!(record.collateral_count, 11);
-    assert_eq!(record.collateral[0].amount, 12);
-    assert_eq!(record.collateral[15].listed, 187);
+    let item = |first| Collateral {
+        amount: first,
+        goods: first + 1,
+        step: first + 2,
+        issue_life: first + 3,
+        currency: first + 4,
+        residual_term: first + 5,
+        original_term: first + 6,
+        lawful: first + 7,
+        unrelated: first + 8,
+        unreflected: first + 9,
+        listed: first + 10,
+    };
+    assert_eq!(record.collateral[0], item(12));
+    assert_eq!(record.collateral[15], item(177));
     assert_eq!(record.guarantee_count, 188);
-    assert_eq!(record.guarantees[0].amount, 189);
-    assert_eq!(record.guarantees[15].unreflected, 332);
+    let item = |first| Guarantee {
+        amount: first,
+        class: first + 1,
+        step: first + 2,
+        currency: first + 3,
+        residual_term: first + 4,
+        original_term: first + 5,
+        lawful: first + 6,
+        direct: first + 7,
+        unreflected: first + 8,
+    };
+    assert_eq!(record.guarantees[0], item(189));
+    assert_eq!(record.guarantees[15], item(324));
     assert_eq!(record.to_numbers(), numbers);
+}
+
+#[test]
+fn layout_of_report() {
+    let numbers = std::array::from_fn(|place| place as u64 + 1);
+    let report = Report::from_numbers(&numbers);
+    assert_eq!(report.exposure, 1);
+    assert_eq!(report.collateral[0], LeftOut(Ground(3)));
+    assert_eq!(report.collateral[15], LeftOut(Ground(33)));
+    let cover = |ground, portion| Cover {
+        outcome: LeftOut(Ground(ground)),
+        portion,
+    };
+    assert_eq!(report.guarantees[0], cover(35, 36));
+    assert_eq!(report.guarantees[15], cover(80, 81));
+    assert_eq!(report.rest, 82);
+    assert_eq!(report.weighted_amount, 83);
+    // A value is given where there is no ground.
+    let mut numbers = [0; REPORT_LENGTH];
+    (numbers[1], numbers[33], numbers[35]) = (7, 9, 8);
+    let report = Report::from_numbers(&numbers);
+    assert_eq!(report.collateral[0], Valued(7));
+    let (outcome, portion) = (Valued(9), 8);
+    assert_eq!(report.guarantees[0], Cover { outcome, portion });
 }
 
 #[test]

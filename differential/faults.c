@@ -1,0 +1,121 @@
+/* The proved library with one number spoiled, chosen by HADLEPHOGA_FAULT. The
+ * exact calls are the library's own two, renamed by differential/faults. */
+#include <stddef.h>
+#include <stdint.h>
+#include <stdlib.h>
+#include <string.h>
+
+#include "hadlephoga.h"
+
+uint64_t exact_answer_book(const uint8_t *book, size_t book_length,
+                           uint64_t *results, size_t results_length,
+                           uint64_t *deals);
+uint64_t exact_report_deal(const uint64_t *record, size_t record_length,
+                           uint64_t *report, size_t report_length);
+
+static int fault(const char *name)
+{
+  const char *chosen = getenv("HADLEPHOGA_FAULT");
+
+  return chosen != NULL && strcmp(chosen, name) == 0;
+}
+
+/* The last deal's answer that is, or is not, a refusal. */
+static uint64_t *last_answer(uint64_t *results, uint64_t deals, int refused)
+{
+  while (deals > 0) {
+    uint64_t *answer = results + --deals * HADLEPHOGA_ANSWER_LENGTH;
+
+    if ((answer[1] != 0) == refused)
+      return answer;
+  }
+  return NULL;
+}
+
+static void lower(uint64_t *number)
+{
+  if (*number > 0)
+    *number -= 1;
+}
+
+/* One of a list of numbers that lie some places apart: the last that is not 0. */
+static void lower_last(uint64_t *first, size_t apart)
+{
+  for (size_t i = HADLEPHOGA_ITEMS; i-- > 0;)
+    if (first[i * apart] != 0) {
+      first[i * apart] -= 1;
+      return;
+    }
+}
+
+uint64_t hadlephoga_answer_book(const uint8_t *book, size_t book_length,
+                                uint64_t *results, size_t results_length,
+                                uint64_t *deals)
+{
+  uint64_t refusal = exact_answer_book(book, book_length, results, results_length, deals);
+  uint64_t *accepted = last_answer(results, *deals, 0);
+  uint64_t *refused = last_answer(results, *deals, 1);
+
+  if (refusal != 0) {
+    if (fault("book-refusal") && refusal == 13)
+      return 12;
+    if (fault("book-refused-count"))
+      *deals = 1;
+    if (fault("book-refused-list") && results_length > 0)
+      results[0] = 0;
+    return refusal;
+  }
+  if (accepted != NULL && fault("book-serial"))
+    accepted[0] += 1;
+  if (accepted != NULL && fault("book-exposure"))
+    lower(&accepted[2]);
+  if (accepted != NULL && fault("book-weighted-amount"))
+    lower(&accepted[3]);
+  if (refused != NULL && fault("book-deal-refusal"))
+    refused[1] = refused[1] == 11 ? 2 : 11;
+  if (refused != NULL && fault("book-line-number"))
+    refused[2] += 1;
+  if (fault("book-behind-answers") && results_length / HADLEPHOGA_ANSWER_LENGTH > *deals)
+    results[*deals * HADLEPHOGA_ANSWER_LENGTH] = 0;
+  /* Outside the list, where the comparison has its margin. */
+  if (fault("book-behind-list"))
+    results[results_length] = 0;
+  if (fault("book-count"))
+    *deals += 1;
+  return 0;
+}
+
+uint64_t hadlephoga_report_deal(const uint64_t *record, size_t record_length,
+                                uint64_t *report, size_t report_length)
+{
+  uint64_t refusal = exact_report_deal(record, record_length, report, report_length);
+
+  if (refusal == 13)
+    return fault("report-short") ? 40 : 13;
+  if (refusal == 40) {
+    if (fault("report-refused-list"))
+      report[1] = 1;
+    return fault(record_length == HADLEPHOGA_RECORD_LENGTH ? "report-refusal" : "report-record-length") ? 0 : 40;
+  }
+  if (fault("report-exposure"))
+    lower(&report[0]);
+  if (fault("report-collateral-value"))
+    lower_last(report + 1, 2);
+  if (fault("report-collateral-ground"))
+    lower_last(report + 2, 2);
+  if (fault("report-guarantee-value"))
+    lower_last(report + 33, 3);
+  if (fault("report-guarantee-ground"))
+    lower_last(report + 34, 3);
+  if (fault("report-portion"))
+    lower_last(report + 35, 3);
+  if (fault("report-rest"))
+    lower(&report[81]);
+  if (fault("report-weighted-amount"))
+    lower(&report[82]);
+  if (fault("report-behind-report") && report_length > HADLEPHOGA_REPORT_LENGTH)
+    report[HADLEPHOGA_REPORT_LENGTH] = 0;
+  if (fault("report-behind-list"))
+    report[report_length] = 0;
+  return 0;
+}

@@ -1,0 +1,368 @@
+/* Tests that the structs of the header hold each number in its place, and that
+ * every name means what the library takes it for. Says the first wrong field and
+ * returns 1, or says nothing and returns 0. Compiles as C11 and as C++. */
+#include <stdio.h>
+#include <stdlib.h>
+#include <string.h>
+
+#include "hadlephoga.h"
+
+#define MARK UINT64_C(0xA5A5A5A5A5A5A5A5)
+
+static void is(int line, const char *name, uint64_t found, uint64_t due)
+{
+  if (found == due)
+    return;
+  printf("layout.c:%d: %s is %llu, not %llu\n", line, name, (unsigned long long)found, (unsigned long long)due);
+  exit(1);
+}
+
+#define IS(field, due) is(__LINE__, #field, (field), (due))
+
+/* Places */
+
+/* Fills a struct with 0, 1, 2, ..; its length is said again by the test. */
+static void fill(void *numbers, size_t size, size_t length)
+{
+  uint64_t place;
+
+  IS(size, length * sizeof place);
+  for (place = 0; place < length; place++)
+    memcpy((unsigned char *)numbers + place * sizeof place, &place, sizeof place);
+}
+
+static void collateral_from(const struct hadlephoga_collateral *item, uint64_t first)
+{
+  IS(item->amount, first);
+  IS(item->type, first + 1);
+  IS(item->step, first + 2);
+  IS(item->issue_life, first + 3);
+  IS(item->currency, first + 4);
+  IS(item->residual_term, first + 5);
+  IS(item->original_term, first + 6);
+  IS(item->lawful, first + 7);
+  IS(item->unrelated, first + 8);
+  IS(item->unreflected, first + 9);
+  IS(item->listed, first + 10);
+}
+
+static void guarantee_from(const struct hadlephoga_guarantee *item, uint64_t first)
+{
+  IS(item->amount, first);
+  IS(item->provider_class, first + 1);
+  IS(item->step, first + 2);
+  IS(item->currency, first + 3);
+  IS(item->residual_term, first + 4);
+  IS(item->original_term, first + 5);
+  IS(item->lawful, first + 6);
+  IS(item->direct, first + 7);
+  IS(item->unreflected, first + 8);
+}
+
+static void places_of_deal(void)
+{
+  struct hadlephoga_deal deal;
+
+  fill(&deal, sizeof deal, 332);
+  IS(deal.amount, 0);
+  IS(deal.counterparty_class, 1);
+  IS(deal.step, 2);
+  IS(deal.currency, 3);
+  IS(deal.kind, 4);
+  IS(deal.interval, 5);
+  IS(deal.residual_term, 6);
+  IS(deal.lent_type, 7);
+  IS(deal.lent_step, 8);
+  IS(deal.lent_issue_life, 9);
+  IS(deal.collateral_count, 10);
+  collateral_from(&deal.collateral[0], 11);
+  collateral_from(&deal.collateral[15], 176);
+  IS(deal.guarantee_count, 187);
+  guarantee_from(&deal.guarantees[0], 188);
+  guarantee_from(&deal.guarantees[15], 323);
+}
+
+static void places_of_report(void)
+{
+  struct hadlephoga_report report;
+
+  fill(&report, sizeof report, 83);
+  IS(report.exposure, 0);
+  IS(report.collateral[0].value, 1);
+  IS(report.collateral[0].ground, 2);
+  IS(report.collateral[15].value, 31);
+  IS(report.collateral[15].ground, 32);
+  IS(report.guarantees[0].value, 33);
+  IS(report.guarantees[0].ground, 34);
+  IS(report.guarantees[0].portion, 35);
+  IS(report.guarantees[15].value, 78);
+  IS(report.guarantees[15].ground, 79);
+  IS(report.guarantees[15].portion, 80);
+  IS(report.rest, 81);
+  IS(report.weighted_amount, 82);
+}
+
+static void places_of_answer(void)
+{
+  struct hadlephoga_answer answer;
+
+  fill(&answer, sizeof answer, 4);
+  IS(answer.serial, 0);
+  IS(answer.refusal, 1);
+  IS(answer.exposure, 2);
+  IS(answer.weighted_amount, 3);
+}
+
+static void lengths(void)
+{
+  IS(HADLEPHOGA_BOOK_LIMIT, 65536);
+  IS(HADLEPHOGA_ITEMS, 16);
+  IS(HADLEPHOGA_ANSWER_LENGTH, 4);
+  IS(HADLEPHOGA_RECORD_LENGTH, 332);
+  IS(HADLEPHOGA_REPORT_LENGTH, 83);
+}
+
+/* Meanings: a deal in which no two fields that could be exchanged are alike. */
+
+/* Senior paper of a bank in euros, valued; every condition is met. */
+static struct hadlephoga_collateral paper(uint64_t amount)
+{
+  struct hadlephoga_collateral item;
+
+  item.amount = amount;
+  item.type = 4;
+  item.step = 3;
+  item.issue_life = 400;
+  item.currency = 978;
+  item.residual_term = 2000;
+  item.original_term = 2500;
+  item.lawful = 1;
+  item.unrelated = 1;
+  item.unreflected = 1;
+  item.listed = 1;
+  return item;
+}
+
+/* Of a sovereign at step 3 in euros, recognised; every condition is met. */
+static struct hadlephoga_guarantee promise(uint64_t amount)
+{
+  struct hadlephoga_guarantee item;
+
+  item.amount = amount;
+  item.provider_class = 1;
+  item.step = 3;
+  item.currency = 978;
+  item.residual_term = 2000;
+  item.original_term = 2500;
+  item.lawful = 1;
+  item.direct = 1;
+  item.unreflected = 1;
+  return item;
+}
+
+/* n is 6 + 5 - 1 = 10, so that table haircuts stay as they are. */
+static struct hadlephoga_deal deal_of_all_grounds(uint64_t last_but_one)
+{
+  struct hadlephoga_deal deal;
+
+  memset(&deal, 0, sizeof deal);
+  deal.amount = 1000000;
+  deal.counterparty_class = 3;
+  deal.step = 5;
+  deal.currency = 978;
+  deal.kind = 1;
+  deal.interval = 6;
+  deal.residual_term = 1800;
+  deal.lent_type = 4;
+  deal.lent_step = 2;
+  deal.lent_issue_life = 720;
+
+  deal.collateral_count = 8;
+  deal.collateral[0] = paper(10001);
+  deal.collateral[0].lawful = 0;
+  deal.collateral[1] = paper(10002);
+  deal.collateral[1].unrelated = 0;
+  deal.collateral[2] = paper(10003);
+  deal.collateral[2].unreflected = 0;
+  deal.collateral[3] = paper(10004);
+  deal.collateral[3].step = 0;
+  deal.collateral[3].listed = 0;
+  deal.collateral[4] = paper(10005);
+  deal.collateral[4].residual_term = 300;
+  deal.collateral[4].original_term = 359;
+  deal.collateral[5] = paper(10006);
+  deal.collateral[5].residual_term = 90;
+  deal.collateral[5].original_term = 400;
+  deal.collateral[6] = paper(300000);
+  deal.collateral[6].step = 0;
+  deal.collateral[6].issue_life = 360;
+  deal.collateral[6].currency = 840;
+  deal.collateral[6].residual_term = 900;
+  deal.collateral[6].original_term = 1080;
+  deal.collateral[7] = paper(500000);
+  deal.collateral[7].type = 2;
+
+  deal.guarantee_count = 9;
+  deal.guarantees[0] = promise(20001);
+  deal.guarantees[0].lawful = 0;
+  deal.guarantees[1] = promise(20002);
+  deal.guarantees[1].direct = 0;
+  deal.guarantees[2] = promise(20003);
+  deal.guarantees[2].unreflected = 0;
+  deal.guarantees[3] = promise(20004);
+  deal.guarantees[3].provider_class = 3;
+  deal.guarantees[3].step = 0;
+  deal.guarantees[4] = promise(20005);
+  deal.guarantees[4].residual_term = 300;
+  deal.guarantees[4].original_term = 359;
+  deal.guarantees[5] = promise(20006);
+  deal.guarantees[5].residual_term = 90;
+  deal.guarantees[5].original_term = 400;
+  deal.guarantees[6] = promise(20007);
+  deal.guarantees[6].provider_class = 3;
+  deal.guarantees[6].step = 5;
+  deal.guarantees[7] = promise(last_but_one);
+  deal.guarantees[8] = promise(250000);
+  deal.guarantees[8].provider_class = 3;
+  deal.guarantees[8].step = 1;
+  deal.guarantees[8].currency = 840;
+  deal.guarantees[8].residual_term = 1000;
+  deal.guarantees[8].original_term = 1200;
+  return deal;
+}
+
+struct marked_report {
+  struct hadlephoga_report report;
+  uint64_t mark;
+};
+
+static void reported(const struct hadlephoga_deal *deal, struct marked_report *marked)
+{
+  memset(marked, 0xA5, sizeof *marked);
+  IS(hadlephoga_report_of(deal, &marked->report), 0);
+  IS(marked->mark, MARK);
+}
+
+static void meanings(void)
+{
+  static const uint64_t collateral_grounds[HADLEPHOGA_ITEMS] = {21, 22, 23, 24, 25, 26};
+  static const uint64_t guarantee_grounds[HADLEPHOGA_ITEMS] = {21, 27, 23, 28, 25, 26, 29};
+  struct hadlephoga_deal deal = deal_of_all_grounds(400000);
+  struct marked_report marked;
+  const struct hadlephoga_report *report = &marked.report;
+  size_t i;
+
+  reported(&deal, &marked);
+  for (i = 0; i < HADLEPHOGA_ITEMS; i++) {
+    IS(report->collateral[i].ground, collateral_grounds[i]);
+    IS(report->guarantees[i].ground, guarantee_grounds[i]);
+    if (i != 6 && i != 7)
+      IS(report->collateral[i].value, 0);
+    if (i != 7 && i != 8) {
+      IS(report->guarantees[i].value, 0);
+      IS(report->guarantees[i].portion, 0);
+    }
+  }
+  /* 300,000 less 20,000 and 80,000 millionths is 270,000; x 810 / 1,710. */
+  IS(report->collateral[6].value, 127894);
+  /* 500,000 less 30,000 millionths. */
+  IS(report->collateral[7].value, 485000);
+  /* Raised by 60,000 millionths: 1,060,000 - 127,894 - 485,000. */
+  IS(report->exposure, 447106);
+  IS(report->guarantees[7].value, 400000);
+  /* 80,000 at n 6 + 9 is 97,980: 225,505; x 910 / 1,710. */
+  IS(report->guarantees[8].value, 120005);
+  /* Weight 20 before weight 50, which covers what is left. */
+  IS(report->guarantees[8].portion, 120005);
+  IS(report->guarantees[7].portion, 327101);
+  IS(report->rest, 0);
+  /* (120,005 x 20 + 327,101 x 50) / 100 is 187,551.5. */
+  IS(report->weighted_amount, 187552);
+
+  deal = deal_of_all_grounds(150000);
+  reported(&deal, &marked);
+  IS(report->exposure, 447106);
+  IS(report->guarantees[7].value, 150000);
+  IS(report->guarantees[7].portion, 150000);
+  IS(report->rest, 177101);
+  /* (120,005 x 20 + 150,000 x 50 + 177,101 x 150) / 100 is 364,652.5. */
+  IS(report->weighted_amount, 364653);
+
+  /* Cash has no step; a list has no seventeenth place. */
+  deal.lent_type = 1;
+  IS(hadlephoga_report_of(&deal, &marked.report), 40);
+  IS(marked.mark, MARK);
+  deal = deal_of_all_grounds(150000);
+  deal.guarantee_count = HADLEPHOGA_ITEMS + 1;
+  IS(hadlephoga_report_of(&deal, &marked.report), 40);
+}
+
+/* Books */
+
+static const char two_deals[] =
+    "CRM\t1\n"
+    "D\t1000\t3\t5\t978\t3\t1\t1800\t1\t0\t0\n"
+    "D\t500\t2\t7\t840\t1\t1\t30\t1\t0\t0\n";
+
+static void answers_of_two_deals(void)
+{
+  const uint8_t *book = (const uint8_t *)two_deals;
+  struct hadlephoga_answer answers[3];
+  uint64_t deals = MARK;
+
+  memset(answers, 0xA5, sizeof answers);
+  IS(hadlephoga_answers(book, sizeof two_deals - 1, answers, 1, &deals), 13);
+  IS(deals, 0);
+  IS(answers[0].serial, MARK);
+  IS(hadlephoga_answers(book, sizeof two_deals - 1, answers, 3, &deals), 0);
+  IS(deals, 2);
+  /* A corporate at step 5 weighs 150. */
+  IS(answers[0].serial, 1);
+  IS(answers[0].refusal, 0);
+  IS(answers[0].exposure, 1000);
+  IS(answers[0].weighted_amount, 1500);
+  /* The step in line 3 is above 6. */
+  IS(answers[1].serial, 2);
+  IS(answers[1].refusal, 3);
+  IS(answers[1].exposure, 3);
+  IS(answers[1].weighted_amount, 0);
+  IS(answers[2].serial, MARK);
+  IS(answers[2].refusal, MARK);
+  IS(answers[2].exposure, MARK);
+  IS(answers[2].weighted_amount, MARK);
+}
+
+static void longest_book(void)
+{
+  static const char deal[] = "CRM\t1\nD\t1000\t3\t5\t978\t3\t1\t1800\t1\t0\t0\n";
+  static uint8_t book[HADLEPHOGA_BOOK_LIMIT + 1];
+  struct hadlephoga_answer answers[2];
+  uint64_t deals = MARK;
+
+  /* One malformed line up to the last byte. */
+  memset(book, 'x', sizeof book);
+  memcpy(book, deal, sizeof deal - 1);
+  memset(answers, 0xA5, sizeof answers);
+  IS(hadlephoga_answers(book, HADLEPHOGA_BOOK_LIMIT + 1, answers, 2, &deals), 10);
+  IS(deals, 0);
+  IS(answers[0].serial, MARK);
+  IS(hadlephoga_answers(book, HADLEPHOGA_BOOK_LIMIT, answers, 2, &deals), 0);
+  IS(deals, 1);
+  IS(answers[0].serial, 1);
+  IS(answers[0].refusal, 11);
+  IS(answers[0].exposure, 3);
+  IS(answers[0].weighted_amount, 0);
+  IS(answers[1].serial, MARK);
+}
+
+int main(void)
+{
+  lengths();
+  places_of_deal();
+  places_of_report();
+  places_of_answer();
+  meanings();
+  answers_of_two_deals();
+  longest_book();
+  return 0;
+}
