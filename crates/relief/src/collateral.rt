@@ -2,7 +2,7 @@
 ghost use mathlib.Core.Path.{_≡_};
 ghost use mathlib.Core.Bool.{true};
 ghost use Prim.Native.Nat.{_≤_};
-ghost use Rattle.deal.specs.Items.{collateralListAllowed, collateralRefusal, countedCollateral, listLimit};
+ghost use Rattle.deal.specs.Items.{collateralListAllowed, countedCollateral, listLimit};
 ghost use Rattle.base.specs.Places.{inPlaces};
 ghost use Rattle.scaling.specs.Period.{holdingPeriod};
 ghost use Rattle.scaling.specs.Root.{Rooted};

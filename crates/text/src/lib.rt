@@ -41,7 +41,7 @@ fn no_feed_in_eight(text: &[u8], at: usize) -> bool
         & (text[at + 7] != LINE_FEED)
 }
 
-// A place in the line that starts here, at most eight bytes before its end or the text's.
+// A place in the line that starts here, near its end: bytes are passed by eights.
 fn near_end(text: &[u8], start: usize) -> usize
     requires { ⌜ start ≤ length (now text) ⌝ }
     ensures { λ r. ⌜ Near (now (text .entry)) start r ⌝ }
