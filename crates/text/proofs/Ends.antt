@@ -20,7 +20,7 @@ module _ (text : List ℕ) (at : ℕ) where
   unfolding firstLine
   fed h e = rw (drop-cons text at 0 h, eq-eqb _ _ e, if-true _ _ _ refl)
 
-  pub no-feed : at < length text → eqb (getD text at 0) lineFeed ≡ false → length (firstLine (drop at text)) ≡ length (firstLine (drop (at + 1) text)) + 1
+  no-feed : at < length text → eqb (getD text at 0) lineFeed ≡ false → length (firstLine (drop at text)) ≡ length (firstLine (drop (at + 1) text)) + 1
   unfolding firstLine
   no-feed h e = rw (add-one at, drop-cons text at 0 h, e, if-false _ _ _ refl, add-one)
 
@@ -32,18 +32,15 @@ module _ (text : List ℕ) (at : ℕ) where
 pub near-start : (text : List ℕ) (start : ℕ) → start ≤ length text → Near text start start
 near-start text start h = record { inside = h; same = refl }
 
-module _ (text : List ℕ) (start at : ℕ) (p : Near text start at) where
-  pub nearer : at < length text → eqb (getD text at 0) lineFeed ≡ false → Near text start (at + 1)
-  nearer h e = record { inside = omega arith; same = omega (arith, p .same, no-feed text at h e) }
+-- one byte further on
+pub nearer : (text : List ℕ) (start at : ℕ) → Near text start at → at < length text → eqb (getD text at 0) lineFeed ≡ false → Near text start (at + 1)
+nearer text start at p h e = record { inside = omega arith; same = omega (arith, p .same, no-feed text at h e) }
 
-  -- several bytes further on
-  pub nearer-by : (n : ℕ) → at + n ≤ length text → noFeeds n text at ≡ true → Near text start (at + n)
-  unfolding noFeeds
-  nearer-by zero h e = let q : at ≡ at + 0 = omega arith in rw q at p
-  nearer-by (suc n) h e =
-      let b = both (noFeeds n text at) _ e in
-      let q : at + n + 1 ≡ at + suc n = omega arith in
-      rw q at (nearer-at (nearer-by n (omega arith) (b .0)) (omega arith) (told-not-false _ _ refl (b .1)))
-    where
-      nearer-at : Near text start (at + n) → at + n < length text → eqb (getD text (at + n) 0) lineFeed ≡ false → Near text start (at + n + 1)
-      nearer-at r k f = record { inside = omega arith; same = omega (arith, r .same, no-feed text (at + n) k f) }
+-- several
+pub nearer-by : (text : List ℕ) (start at : ℕ) → Near text start at → (n : ℕ) → at + n ≤ length text → noFeeds n text at ≡ true → Near text start (at + n)
+unfolding noFeeds
+nearer-by text start at p zero h e = let q : at ≡ at + 0 = omega arith in rw q at p
+nearer-by text start at p (suc n) h e =
+    let b = both (noFeeds n text at) _ e in
+    let q : at + n + 1 ≡ at + suc n = omega arith in
+    rw q at (nearer text start (at + n) (nearer-by text start at p n (omega arith) (b .0)) (omega arith) (told-not-false _ _ refl (b .1)))

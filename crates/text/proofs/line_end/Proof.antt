@@ -5,7 +5,7 @@ use native.Mathlib.Omega.{arith}
 use lib.ListN.{length}
 use Rattle.base.proofs.Tests.{tests}
 use Rattle.text.specs.Working.{Near}
-use Rattle.text.proofs.Ends.{fed, no-feed, past}
+use Rattle.text.proofs.Ends.{fed, nearer, past}
 use Rattle.text.proofs.line_end.Statement.{statement}
 use Rattle.text.proofs.line_end.Tie as tie
 
@@ -42,8 +42,7 @@ loop-less c = omega arith
 loop-again : tie.Need-loop-again Inv-loop μ-loop
 loop-again c =
     let b = c .before .before in
-    let h = no-feed (b .before .before .before .before .args .text .now) (b .before .loop .at) (b .loop-test .taken) (ne-eqb _ _ (c .if1 .left)) in
-    record { inside = omega arith; same = omega (arith, b .before .loop .inv .same, h) }
+    nearer _ _ (b .before .loop .at) (b .before .loop .inv) (b .loop-test .taken) (ne-eqb _ _ (c .if1 .left))
 
 returns-2 : tie.Need-returns-2 Inv-loop μ-loop
 returns-2 c =
