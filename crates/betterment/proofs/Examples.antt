@@ -6,7 +6,7 @@ use mathlib.Core.List.{List, [], _∷_, _++_}
 use native.Mathlib.Omega.{arith}
 use lib.Dec.{ltb}
 use lib.ListN.{replicate}
-use Rattle.base.specs.All.{all}
+use Rattle.base.specs.All.{allPass}
 use Rattle.deal.specs.Terms.{termsOf}
 use Rattle.deal.specs.Deals.{accepted, withoutProtection}
 use Rattle.deal.specs.declared.terms.Terms.{Terms}
@@ -123,7 +123,7 @@ cases =
     ∷ []
 
 -- EACH KIND OF BETTERMENT, AND EACH PLACE OF IT, CAN LOWER THE REPORTED AMOUNT
-each-lowers : all cases lowered ≡ true
+each-lowers : allPass cases lowered ≡ true
 unfolding amount
 each-lowers = refl
 

@@ -6,7 +6,7 @@ use mathlib.Core.List.{List, [], _∷_}
 use mathlib.Core.Logic.{inl, inr}
 use native.Mathlib.Omega.{arith}
 use borrow.Author.Tests.{eqb-true}
-use Rattle.base.specs.All.{all}
+use Rattle.base.specs.All.{allPass}
 use Rattle.base.proofs.Every.{both}
 use Rattle.tables.specs.Table.{Table, TableLaws}
 use Rattle.deal.proofs.Plain.{PlainTerms, PlainCollateral, PlainGuarantee, plain-terms, plain-collateral, plain-guarantee}
@@ -74,23 +74,23 @@ module _ {currency : ℕ} where
 -- Lists of items that pass a test
 
 module _ {A : Type 0} (fits : A → Bool) (NoWorse : A → A → Type 0) (same : (x : A) → fits x ≡ true → NoWorse x x) where
-  unchanged : (xs : List A) → all xs fits ≡ true → NoLess NoWorse xs xs
+  unchanged : (xs : List A) → allPass xs fits ≡ true → NoLess NoWorse xs xs
   unchanged [] e = none
-  unchanged (x ∷ xs) e = let b = both (fits x) (all xs fits) e in kept (same x (b .0)) (unchanged xs (b .1))
+  unchanged (x ∷ xs) e = let b = both (fits x) (allPass xs fits) e in kept (same x (b .0)) (unchanged xs (b .1))
 
-  one-more : {xs ys : List A} → OneMore xs ys → all ys fits ≡ true → NoLess NoWorse xs ys
-  one-more (OneMore.here {item = y} {items = ys}) e = more (unchanged ys (both (fits y) (all ys fits) e .1))
-  one-more (OneMore.later {item = y} {new = ys} o) e = let b = both (fits y) (all ys fits) e in kept (same y (b .0)) (one-more o (b .1))
+  one-more : {xs ys : List A} → OneMore xs ys → allPass ys fits ≡ true → NoLess NoWorse xs ys
+  one-more (OneMore.here {item = y} {items = ys}) e = more (unchanged ys (both (fits y) (allPass ys fits) e .1))
+  one-more (OneMore.later {item = y} {new = ys} o) e = let b = both (fits y) (allPass ys fits) e in kept (same y (b .0)) (one-more o (b .1))
 
   module _ (Change : A → A → Type 0) (better : (x y : A) → Change x y → fits x ≡ true → fits y ≡ true → NoWorse x y) where
-    one-changed : {xs ys : List A} → OneChanged Change xs ys → all xs fits ≡ true → all ys fits ≡ true → NoLess NoWorse xs ys
+    one-changed : {xs ys : List A} → OneChanged Change xs ys → allPass xs fits ≡ true → allPass ys fits ≡ true → NoLess NoWorse xs ys
     one-changed (OneChanged.here {old = x} {new = y} {items = zs} c) e e′ =
-        let b = both (fits x) (all zs fits) e in
-        let b′ = both (fits y) (all zs fits) e′ in
+        let b = both (fits x) (allPass zs fits) e in
+        let b′ = both (fits y) (allPass zs fits) e′ in
         kept (better x y c (b .0) (b′ .0)) (unchanged zs (b .1))
     one-changed (OneChanged.later {item = z} {old = xs} {new = ys} o) e e′ =
-        let b = both (fits z) (all xs fits) e in
-        let b′ = both (fits z) (all ys fits) e′ in
+        let b = both (fits z) (allPass xs fits) e in
+        let b′ = both (fits z) (allPass ys fits) e′ in
         kept (same z (b .0)) (one-changed o (b .1) (b′ .1))
 
 -- The deal
@@ -109,25 +109,25 @@ module _ (currency : ℕ) where
   kept-guarantee : (g : Guarantee) → guaranteeFits g ≡ true → NoWorseGuarantee currency g g
   kept-guarantee g e = same-guarantee (guarantee-plain g e)
 
-  collateral-kept : (cs : List Collateral) → all cs collateralFits ≡ true → NoLess (NoWorseCollateral currency) cs cs
+  collateral-kept : (cs : List Collateral) → allPass cs collateralFits ≡ true → NoLess (NoWorseCollateral currency) cs cs
   collateral-kept = unchanged collateralFits (NoWorseCollateral currency) kept-collateral
 
-  guarantees-kept : (gs : List Guarantee) → all gs guaranteeFits ≡ true → NoLess (NoWorseGuarantee currency) gs gs
+  guarantees-kept : (gs : List Guarantee) → allPass gs guaranteeFits ≡ true → NoLess (NoWorseGuarantee currency) gs gs
   guarantees-kept = unchanged guaranteeFits (NoWorseGuarantee currency) kept-guarantee
 
-  collateral-longer : {cs cs′ : List Collateral} → OneMore cs cs′ → all cs′ collateralFits ≡ true → NoLess (NoWorseCollateral currency) cs cs′
+  collateral-longer : {cs cs′ : List Collateral} → OneMore cs cs′ → allPass cs′ collateralFits ≡ true → NoLess (NoWorseCollateral currency) cs cs′
   collateral-longer = one-more collateralFits (NoWorseCollateral currency) kept-collateral
 
-  guarantees-longer : {gs gs′ : List Guarantee} → OneMore gs gs′ → all gs′ guaranteeFits ≡ true → NoLess (NoWorseGuarantee currency) gs gs′
+  guarantees-longer : {gs gs′ : List Guarantee} → OneMore gs gs′ → allPass gs′ guaranteeFits ≡ true → NoLess (NoWorseGuarantee currency) gs gs′
   guarantees-longer = one-more guaranteeFits (NoWorseGuarantee currency) kept-guarantee
 
-  collateral-changed : {cs cs′ : List Collateral} → OneChanged (BetterCollateral currency) cs cs′ → all cs collateralFits ≡ true → all cs′ collateralFits ≡ true →
+  collateral-changed : {cs cs′ : List Collateral} → OneChanged (BetterCollateral currency) cs cs′ → allPass cs collateralFits ≡ true → allPass cs′ collateralFits ≡ true →
       NoLess (NoWorseCollateral currency) cs cs′
   collateral-changed =
       one-changed collateralFits (NoWorseCollateral currency) kept-collateral (BetterCollateral currency)
       (λ c c′ b e e′. changed-collateral b (collateral-plain c e) (collateral-plain c′ e′))
 
-  guarantees-changed : {gs gs′ : List Guarantee} → OneChanged (BetterGuarantee currency) gs gs′ → all gs guaranteeFits ≡ true → all gs′ guaranteeFits ≡ true →
+  guarantees-changed : {gs gs′ : List Guarantee} → OneChanged (BetterGuarantee currency) gs gs′ → allPass gs guaranteeFits ≡ true → allPass gs′ guaranteeFits ≡ true →
       NoLess (NoWorseGuarantee currency) gs gs′
   guarantees-changed =
       one-changed guaranteeFits (NoWorseGuarantee currency) kept-guarantee (BetterGuarantee currency)

@@ -8,7 +8,7 @@ use lib.Dec.{leb, eqb}
 use lib.ListN.{length, drop, replicate, length-take, length-append}
 use lib.Seq.{take-append-seam}
 use borrow.Author.Tests.{eqb-true, eq-eqb, leb-true, le-leb}
-use Rattle.base.specs.All.{all}
+use Rattle.base.specs.All.{allPass}
 use Rattle.base.proofs.All.{all-at, all-from}
 use Rattle.base.proofs.Every.{both}
 use Rattle.base.proofs.Tests.{and-true}
@@ -33,14 +33,14 @@ guaranteeFits g = eqb (guaranteeRefusal g) 0
 pub record FitsView (v : View) : Type 0 where
   pub terms : termsRefusal (v .terms) ≡ 0
   pub collateral-length : length (v .collateral) ≤ listLimit
-  pub collateral : all (v .collateral) collateralFits ≡ true
+  pub collateral : allPass (v .collateral) collateralFits ≡ true
   pub guarantee-length : length (v .guarantees) ≤ listLimit
-  pub guarantees : all (v .guarantees) guaranteeFits ≡ true
+  pub guarantees : allPass (v .guarantees) guaranteeFits ≡ true
 
 pub view-fits : (v : View) → acceptedView v ≡ true → FitsView v
 unfolding acceptedView
 view-fits v e =
-    let outer = both (eqb (termsRefusal (v .terms)) 0 && (leb (length (v .collateral)) listLimit && all (v .collateral) collateralFits)) _ e in
+    let outer = both (eqb (termsRefusal (v .terms)) 0 && (leb (length (v .collateral)) listLimit && allPass (v .collateral) collateralFits)) _ e in
     let inner = both (eqb (termsRefusal (v .terms)) 0) _ (outer .0) in
     let c = both (leb (length (v .collateral)) listLimit) _ (inner .1) in
     let g = both (leb (length (v .guarantees)) listLimit) _ (outer .1) in

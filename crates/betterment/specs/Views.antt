@@ -4,7 +4,7 @@ use mathlib.Core.Bool.{Bool, _&&_}
 use mathlib.Core.List.{List}
 use lib.Dec.{leb, eqb}
 use lib.ListN.{length}
-use Rattle.base.specs.All.{all}
+use Rattle.base.specs.All.{allPass}
 use Rattle.deal.specs.Terms.{termsRefusal}
 use Rattle.deal.specs.Items.{collateralRefusal, guaranteeRefusal, listLimit, countedCollateral, countedGuarantees}
 use Rattle.deal.specs.Deals.{dealWith}
@@ -26,8 +26,8 @@ viewOf d = record { terms = d .terms; collateral = countedCollateral (d .collate
 unfoldable pub acceptedView : View → Bool
 acceptedView v =
     eqb (termsRefusal (v .terms)) 0
-    && (leb (length (v .collateral)) listLimit && all (v .collateral) (λ c. eqb (collateralRefusal c) 0))
-    && (leb (length (v .guarantees)) listLimit && all (v .guarantees) (λ g. eqb (guaranteeRefusal g) 0))
+    && (leb (length (v .collateral)) listLimit && allPass (v .collateral) (λ c. eqb (collateralRefusal c) 0))
+    && (leb (length (v .guarantees)) listLimit && allPass (v .guarantees) (λ g. eqb (guaranteeRefusal g) 0))
 
 -- a record that holds these fields and at most sixteen items in each list, one of many
 abbrev pub recordOf : View → Deal

@@ -7,7 +7,7 @@ use mathlib.Core.Logic.{_⊎_, inl, ⊎-elim}
 use native.Mathlib.Omega.{arith}
 use lib.ListN.{length, take, drop}
 use lib.Seq.{take-at, drop-at}
-use Rattle.base.specs.All.{all}
+use Rattle.base.specs.All.{allPass}
 use Rattle.text.specs.Text.{linesOf, ended}
 use Rattle.text.proofs.Lines.{lines-append, no-lines}
 use Rattle.deal.specs.declared.deal.Deal.{Deal}
@@ -37,9 +37,9 @@ lines-follow first second f = ⊎-elim (lines-append first second) nothing f
     nothing e = rw (e, no-lines, append-nil first, append-nil (linesOf first))
 
 starts-follow : (first second : List ℕ) → Parted first second → StartsDeal first → StartsDeal second → StartsDeal (first ++ second)
-starts-follow first second f s t = ap (λ ls. all (take 1 ls) opensDeal) (lines-follow first second f) ∙ go (linesOf first) s
+starts-follow first second f s t = ap (λ ls. allPass (take 1 ls) opensDeal) (lines-follow first second f) ∙ go (linesOf first) s
   where
-    go : (ls : List (List ℕ)) → all (take 1 ls) opensDeal ≡ true → all (take 1 (ls ++ linesOf second)) opensDeal ≡ true
+    go : (ls : List (List ℕ)) → allPass (take 1 ls) opensDeal ≡ true → allPass (take 1 (ls ++ linesOf second)) opensDeal ≡ true
     go [] h = t
     go (l ∷ ls) h = h
 

@@ -6,7 +6,7 @@ use mathlib.Core.List.{List, [], _∷_, _++_}
 use native.Mathlib.Omega.{arith}
 use lib.ListN.{length, take, drop, drop-of-length-le}
 use lib.Seq.{drop-cons}
-use Rattle.base.specs.All.{all}
+use Rattle.base.specs.All.{allPass}
 use Rattle.base.proofs.Every.{both}
 use Rattle.base.proofs.Choice.{if-true, if-false, never}
 use Rattle.base.proofs.Tests.{told-not-true, told-not-false}
@@ -94,7 +94,7 @@ deals-counted m n (line ∷ lines) = go (deals-counted (m + 1) (n + 1) lines) (o
     go h false e = rw (deals-pass m line lines e, deals-pass n line lines e, h)
 
 -- lines that start with a deal, if there are any, are no one else's own
-own-append : (ls ms : List (List ℕ)) → all (take 1 ms) opensDeal ≡ true → ownLines (ls ++ ms) ≡ ownLines ls
+own-append : (ls ms : List (List ℕ)) → allPass (take 1 ms) opensDeal ≡ true → ownLines (ls ++ ms) ≡ ownLines ls
 own-append [] [] h = refl
 own-append [] (m ∷ ms) h = own-end m ms (both (opensDeal m) true h .0) ∙ sym no-own
 own-append (l ∷ ls) ms h = go (own-append ls ms h) (opensDeal l) refl
@@ -104,7 +104,7 @@ own-append (l ∷ ls) ms h = go (own-append ls ms h) (opensDeal l) refl
     go k false e = own-more l (ls ++ ms) e ∙ ap (λ r. l ∷ r) k ∙ sym (own-more l ls e)
 
 -- and their deals stand behind the others
-pub deals-append : (number : ℕ) (ls ms : List (List ℕ)) → all (take 1 ms) opensDeal ≡ true
+pub deals-append : (number : ℕ) (ls ms : List (List ℕ)) → allPass (take 1 ms) opensDeal ≡ true
     → dealsFrom number (ls ++ ms) ≡ dealsFrom number ls ++ dealsFrom (number + length ls) ms
 deals-append number [] ms h =
     let e : number ≡ number + 0 = omega arith in

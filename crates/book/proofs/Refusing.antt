@@ -7,7 +7,7 @@ use native.Mathlib.Omega.{arith}
 use borrow.Author.Tests.{eqb-true, ltb-false}
 use lib.Dec.{eqb}
 use lib.ListN.{length, take}
-use Rattle.base.specs.All.{all}
+use Rattle.base.specs.All.{allPass}
 use Rattle.base.proofs.Choice.{if-true, if-false}
 use Rattle.base.proofs.FirstMet.{NoneMet, Exact, exact, none-exactly}
 use Rattle.text.specs.Text.{firstLine, linesOf}
@@ -21,11 +21,11 @@ use Rattle.book.proofs.Grouping.{opens-first}
 use Rattle.book.proofs.Answering.{no-answers}
 
 -- the first line behind the header opens no deal
-pub second-wrong : (text : List ℕ) → not (all (take 1 (linesOf text)) opensDeal) ≡ ownFirst text
+pub second-wrong : (text : List ℕ) → not (allPass (take 1 (linesOf text)) opensDeal) ≡ ownFirst text
 unfolding ownFirst
-second-wrong [] = ap (λ ls. not (all (take 1 ls) opensDeal)) no-lines
+second-wrong [] = ap (λ ls. not (allPass (take 1 ls) opensDeal)) no-lines
 second-wrong (b ∷ bs) =
-    ap (λ ls. not (all (take 1 ls) opensDeal)) (lines-first b bs) ∙ go (opensDeal (firstLine (b ∷ bs))) (opensDeal (b ∷ bs)) (opens-first (b ∷ bs))
+    ap (λ ls. not (allPass (take 1 ls) opensDeal)) (lines-first b bs) ∙ go (opensDeal (firstLine (b ∷ bs))) (opensDeal (b ∷ bs)) (opens-first (b ∷ bs))
   where
     go : (t u : Bool) → t ≡ u → not (t && true) ≡ not u
     go true u e = ap not e

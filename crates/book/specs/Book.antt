@@ -4,7 +4,7 @@ use mathlib.Core.Bool.{not}
 use mathlib.Core.List.{List, [], _∷_, _++_}
 use lib.Dec.{eqb, ltb}
 use lib.ListN.{drop, length, take}
-use Rattle.base.specs.All.{all}
+use Rattle.base.specs.All.{allPass}
 use Rattle.base.specs.Choice.{if_then_else_}
 use Rattle.base.specs.FirstMet.{Test, _when_, firstMet}
 use Rattle.text.specs.Bytes.{bytes}
@@ -35,7 +35,7 @@ unfoldable pub bookTests : List ℕ → ℕ → List (Test ℕ)
 bookTests book places =
     10 when ltb bookLimit (length book)
     ∷ 9 when not (startsWith header book)
-    ∷ 12 when not (all (take 1 (linesBehind book)) opensDeal)
+    ∷ 12 when not (allPass (take 1 (linesBehind book)) opensDeal)
     ∷ 13 when ltb places (4 * length (dealsOf book))
     ∷ []
 

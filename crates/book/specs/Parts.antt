@@ -7,7 +7,7 @@ use mathlib.Core.Logic.{_⊎_}
 use mathlib.Core.Path.{_≡_}
 use lib.Dec.{eqb}
 use lib.ListN.{length, take}
-use Rattle.base.specs.All.{all}
+use Rattle.base.specs.All.{allPass}
 use Rattle.text.specs.Text.{linesOf, ended}
 use Rattle.deal.specs.Deals.{accepted}
 use Rattle.deal.specs.declared.deal.Deal.{Deal}
@@ -23,7 +23,7 @@ linesIn text = length (linesOf text)
 
 -- a text whose first line, if it has one, opens a deal
 abbrev pub StartsDeal : List ℕ → Type 0
-StartsDeal text = all (take 1 (linesOf text)) opensDeal ≡ true
+StartsDeal text = allPass (take 1 (linesOf text)) opensDeal ≡ true
 
 -- the answers to the deals of a text, where the first deal has this serial, and the text's first line this number
 abbrev pub answersTo : ℕ → ℕ → List ℕ → List ℕ

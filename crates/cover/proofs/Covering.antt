@@ -6,7 +6,7 @@ use mathlib.Core.List.{List, _++_, map}
 use native.Mathlib.Omega.{arith}
 use lib.ListN.{length, take, drop, set, getD, replicate, length-map, length-take}
 use lib.Seq.{take-all, take-take, getD-take}
-use Rattle.base.specs.All.{all}
+use Rattle.base.specs.All.{allPass}
 use Rattle.base.specs.Places.{inPlaces}
 use Rattle.base.specs.Sum.{sumOf}
 use Rattle.base.proofs.Places.{fill-more, placed}
@@ -33,7 +33,7 @@ module _ {E : ℕ} {ps : List Protection} {portions : List ℕ} {left sum i : �
   pub left-le : left ≤ E
   left-le = omega (arith, s .taken-off)
 
-  pub sum-le : E ≤ 1000000000000 → all ps small ≡ true → sum ≤ 1000000000000000
+  pub sum-le : E ≤ 1000000000000 → allPass ps small ≡ true → sum ≤ 1000000000000000
   sum-le h a =
       omega (
         arith,

@@ -3,7 +3,7 @@ ghost use mathlib.Core.Bool.{true};
 ghost use mathlib.Core.Path.{_≡_};
 ghost use Prim.Native.Nat.{_-_, _≤_, min};
 ghost use lib.ListN.{take};
-ghost use Rattle.base.specs.All.{all};
+ghost use Rattle.base.specs.All.{allPass};
 ghost use Rattle.cover.specs.Cover.{coverOf};
 ghost use Rattle.cover.specs.Limits.{small};
 use crate::precedence::covers_before;
@@ -26,7 +26,7 @@ pub fn cover(protections: [Protection; 16], count: usize, exposure: u64, weight:
     requires { ⌜ count ≤ 16 ⌝ }
     requires { ⌜ exposure ≤ 1000000000000 ⌝ }
     requires { ⌜ weight ≤ 1000 ⌝ }
-    requires { ⌜ all (take count protections) small ≡ true ⌝ }
+    requires { ⌜ allPass (take count protections) small ≡ true ⌝ }
     ensures { λ r. ⌜ r ≡ coverOf weight exposure (take count protections) ⌝ }
 {
     let mut portions: [u64; 16] = [0; 16];

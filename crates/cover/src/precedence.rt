@@ -3,7 +3,7 @@ ghost use mathlib.Core.Bool.{true};
 ghost use mathlib.Core.Path.{_≡_};
 ghost use Prim.Native.Nat.{_+_, _≤_};
 ghost use lib.ListN.{take};
-ghost use Rattle.base.specs.All.{all};
+ghost use Rattle.base.specs.All.{allPass};
 ghost use Rattle.base.specs.Choice.{if_then_else_};
 ghost use Rattle.cover.specs.Cover.{lighter, equal, before};
 ghost use Rattle.cover.specs.Limits.{small};
@@ -32,7 +32,7 @@ fn ahead(piece: Protection, weight: u64, earlier: bool) -> u64
 pub fn covers_before(protections: [Protection; 16], count: usize, place: usize, weight: u64) -> u64
     requires { ⌜ count ≤ 16 ⌝ }
     requires { ⌜ place ≤ count ⌝ }
-    requires { ⌜ all (take count protections) small ≡ true ⌝ }
+    requires { ⌜ allPass (take count protections) small ≡ true ⌝ }
     ensures { λ r. ⌜ r ≡ before weight (take count protections) (take place protections) ⌝ }
 {
     let mut sum: u64 = 0;

@@ -6,7 +6,7 @@ use mathlib.Core.Bool.{true, false, not, _&&_}
 use native.Mathlib.Omega.{arith}
 use lib.Dec.{leb, eqb}
 use borrow.Author.Tests.{le-leb, leb-false, eq-eqb, eqb-true}
-use Rattle.base.specs.All.{all}
+use Rattle.base.specs.All.{allPass}
 use Rattle.base.proofs.Choice.{if-true, if-false}
 use Rattle.base.proofs.Every.{both}
 use Rattle.base.proofs.All.{all-set}

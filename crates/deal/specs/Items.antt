@@ -5,7 +5,7 @@ use mathlib.Core.List.{List, [], _∷_}
 use lib.Dec.{leb, ltb, eqb}
 use lib.ListN.{take, set}
 use Rattle.base.specs.FirstMet.{Test, _when_, firstMet}
-use Rattle.base.specs.All.{all}
+use Rattle.base.specs.All.{allPass}
 use Rattle.deal.specs.Ranges.{amountAllowed, currencyAllowed, daysAllowed, conditionAllowed}
 use Rattle.deal.specs.Parties.{providerKnown, partyStepAllowed}
 use Rattle.deal.specs.Assets.{goodsKnown, assetStepAllowed, lifeAllowed}
@@ -60,10 +60,10 @@ countedGuarantees l = take (l .count) (l .items)
 
 -- no "list count above sixteen", and no field "of a counted item, that .. adding would refuse", the relation 7 among them
 unfoldable pub collateralListAllowed : CollateralList → Bool
-collateralListAllowed l = leb (l .count) listLimit && all (countedCollateral l) (λ c. eqb (collateralRefusal c) 0)
+collateralListAllowed l = leb (l .count) listLimit && allPass (countedCollateral l) (λ c. eqb (collateralRefusal c) 0)
 
 unfoldable pub guaranteeListAllowed : GuaranteeList → Bool
-guaranteeListAllowed l = leb (l .count) listLimit && all (countedGuarantees l) (λ g. eqb (guaranteeRefusal g) 0)
+guaranteeListAllowed l = leb (l .count) listLimit && allPass (countedGuarantees l) (λ g. eqb (guaranteeRefusal g) 0)
 
 -- "adding changes only the next place and that list's count". Places are numbered from 0, and a list has sixteen of them
 abbrev pub appendCollateral : CollateralList → Collateral → CollateralList

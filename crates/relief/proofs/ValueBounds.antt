@@ -7,7 +7,7 @@ use native.Mathlib.Nat.{le-trans}
 use native.Mathlib.Omega.{arith}
 use lib.Dec.{eqb}
 use borrow.Author.Tests.{eqb-true, le-leb}
-use Rattle.base.specs.All.{all}
+use Rattle.base.specs.All.{allPass}
 use Rattle.base.proofs.All.{all-map, all-implied}
 use Rattle.base.proofs.FirstMet.{first-holds}
 use Rattle.base.proofs.Tests.{and-true}
@@ -48,7 +48,7 @@ lent-cut-bound t p =
     scaled-bound h (omega (arith, period-bound (t .kind) (t .interval), p .interval))
 
 -- what covers: values to the limit of an amount, weights to 150
-pub protections-small : (t : Terms) (gs : List Guarantee) → all gs (λ g. eqb (guaranteeRefusal g) 0) ≡ true → all (protections table2019 t gs) small ≡ true
+pub protections-small : (t : Terms) (gs : List Guarantee) → allPass gs (λ g. eqb (guaranteeRefusal g) 0) ≡ true → allPass (protections table2019 t gs) small ≡ true
 unfolding small
 protections-small t gs e =
     rw (all-map (protectionOf table2019 t) small gs) (all-implied (λ g. eqb (guaranteeRefusal g) 0) (λ g. small (protectionOf table2019 t g)) one gs e)

@@ -4,7 +4,7 @@ use mathlib.Core.Bool.{true}
 use mathlib.Core.List.{List}
 use mathlib.Core.Path.{_≡_}
 use lib.Dec.{eqb}
-use Rattle.base.specs.All.{all}
+use Rattle.base.specs.All.{allPass}
 use Rattle.tables.specs.Table.{Table, table2019}
 use Rattle.scaling.specs.Period.{guaranteePeriod, holdingPeriod}
 use Rattle.scaling.specs.Root.{Rooted}
@@ -42,7 +42,7 @@ pub record RootsOf (t : Terms) (r : Roots) : Type 0 where
 -- pieces of protection that are guarantees which a deal may hold
 pub record PiecesOf (t : Terms) (pieces : List Protection) : Type 0 where
   pub guarantees : List Guarantee
-  pub allowed : all guarantees (λ g. eqb (guaranteeRefusal g) 0) ≡ true
+  pub allowed : allPass guarantees (λ g. eqb (guaranteeRefusal g) 0) ≡ true
   pub are : pieces ≡ protections table2019 t guarantees
 
 -- E* for collateral that is worth so much

@@ -8,7 +8,7 @@ use borrow.Author.Tests.{eqb-true, eqb-false, ne-eqb}
 use lib.Dec.{eqb}
 use lib.ListN.{length, take, drop, getD, length-take, length-drop, drop-of-length-le}
 use lib.Seq.{drop-cons, drop-drop, take-all}
-use Rattle.base.specs.All.{all}
+use Rattle.base.specs.All.{allPass}
 use Rattle.base.proofs.Every.{both}
 use Rattle.base.proofs.Tests.{told-not-false}
 use Rattle.base.proofs.Choice.{if-true, if-false, never}
@@ -103,12 +103,12 @@ starts-long (p ∷ ps) (b ∷ bs) h =
     omega (arith, k)
 
 -- a start without a line feed is that of the first line
-pub starts-first : (prefix text : List ℕ) → all prefix (λ p. not (eqb p lineFeed)) ≡ true → startsWith prefix (firstLine text) ≡ startsWith prefix text
+pub starts-first : (prefix text : List ℕ) → allPass prefix (λ p. not (eqb p lineFeed)) ≡ true → startsWith prefix (firstLine text) ≡ startsWith prefix text
 unfolding startsWith
 starts-first [] text h = refl
 starts-first (p ∷ ps) [] h = rw no-first
 starts-first (p ∷ ps) (b ∷ bs) h =
-    let k = both (not (eqb p lineFeed)) (all ps (λ p. not (eqb p lineFeed))) h in
+    let k = both (not (eqb p lineFeed)) (allPass ps (λ p. not (eqb p lineFeed))) h in
     go (k .0) (starts-first ps bs (k .1)) (eqb b lineFeed) refl
   where
     go : not (eqb p lineFeed) ≡ true → startsWith ps (firstLine bs) ≡ startsWith ps bs → (t : Bool) → eqb b lineFeed ≡ t

@@ -6,7 +6,7 @@ use native.Mathlib.Omega.{arith}
 use borrow.Author.Tests.{lt-leb, le-leb}
 use lib.Dec.{eqb}
 use lib.ListN.{length, take}
-use Rattle.base.specs.All.{all}
+use Rattle.base.specs.All.{allPass}
 use Rattle.base.proofs.All.{all-more, all-not}
 use Rattle.base.proofs.Arrays.{unmapped}
 use Rattle.base.proofs.Tests.{tests, and-true, and-first, and-second, told-not-true, told-not-false}
@@ -20,7 +20,7 @@ abbrev passes : Collateral → Bool
 passes x = eqb (collateralRefusal x) 0
 
 abbrev Inv-loop : tie.InvT-loop
-Inv-loop items count i₀ i = (i ≤ count) × (all (take i items) passes ≡ true)
+Inv-loop items count i₀ i = (i ≤ count) × (allPass (take i items) passes ≡ true)
 
 abbrev μ-loop : tie.MeasureT-loop
 μ-loop items count i₀ i = count - i
