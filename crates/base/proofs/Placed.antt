@@ -1,7 +1,7 @@
 -- What holds of a list held in a fixed number of places, and of two lists joined item by item. Assumes nothing.
 use Prim.Native.Nat.{ℕ, zero, suc, _+_, _<_}
-use mathlib.Core.Path.{_≡_, refl}
-use mathlib.Core.List.{List, [], _∷_, _++_, zipWith}
+use mathlib.Core.Path.{_≡_, refl, ap}
+use mathlib.Core.List.{List, [], _∷_, _++_, map, zipWith}
 use native.Mathlib.Omega.{arith}
 use native.Mathlib.Nat.{le-of-suc-le-suc, not-suc-le-zero}
 use lib.ListN.{length, getD, drop, replicate}
@@ -33,6 +33,14 @@ module _ {A B C : Type 0} (h : A → B → C) where
   sum-zip f g e [] (y ∷ ys) k = absurd (omega arith)
   sum-zip f g e (x ∷ xs) [] k = absurd (omega arith)
   sum-zip f g e (x ∷ xs) (y ∷ ys) k = omega (arith, e x y, sum-zip f g e xs ys (omega arith))
+
+  -- what is read of each depends on the first list alone
+  pub map-zip : {D : Type 0} (f : C → D) (g : A → D) → ((a : A) (b : B) → f (h a b) ≡ g a) → (xs : List A) (ys : List B) → length xs ≡ length ys →
+      map f (zipWith h xs ys) ≡ map g xs
+  unfolding zipWith
+  map-zip f g e [] ys k = refl
+  map-zip f g e (x ∷ xs) [] k = absurd (omega arith)
+  map-zip {D} f g e (x ∷ xs) (y ∷ ys) k = rw (e x y) (ap (λ (l : List D). g x ∷ l) (map-zip f g e xs ys (omega arith)))
 
   -- Item by item
 

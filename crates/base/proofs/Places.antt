@@ -1,11 +1,11 @@
 -- Places filled one by one, as loops do: the first n hold what they should, the others what they held. Assumes nothing.
 use Prim.Native.Nat.{ℕ, zero, suc, _+_, _<_}
 use mathlib.Core.Path.{_≡_, refl, sym, ap}
-use mathlib.Core.List.{List, [], _∷_, _++_, map, zipWith}
+use mathlib.Core.List.{List, [], _∷_, _++_, map, map-append, zipWith}
 use native.Mathlib.Nat.{le-of-suc-le-suc, not-suc-le-zero}
 use native.Mathlib.Numerals.{add-one}
 use native.Mathlib.Omega.{arith}
-use lib.ListN.{length, take, drop, set, getD, replicate}
+use lib.ListN.{length, take, drop, set, getD, replicate, length-map}
 use lib.Seq.{take-append-seam}
 use Rattle.base.specs.Places.{inPlaces}
 
@@ -57,3 +57,13 @@ unfolding zipWith
 zip-map f g [] ys = refl
 zip-map f g (x ∷ xs) [] = refl
 zip-map {D = D} f g (x ∷ xs) (y ∷ ys) = ap (λ (l : List D). f (g x) y ∷ l) (zip-map f g xs ys)
+
+-- a list in its places, mapped
+map-past : {A B : Type 0} (f : A → B) (k n : ℕ) (none : A) → map f (drop k (replicate n none)) ≡ drop k (replicate n (f none))
+map-past f zero zero none = refl
+map-past {B = B} f zero (suc n) none = ap (λ (l : List B). f none ∷ l) (map-past f zero n none)
+map-past f (suc k) zero none = refl
+map-past f (suc k) (suc n) none = map-past f k n none
+
+pub map-places : {A B : Type 0} (f : A → B) (places : ℕ) (none : A) (xs : List A) → map f (inPlaces places none xs) ≡ inPlaces places (f none) (map f xs)
+map-places f places none xs = rw (map-append f xs, map-past f (length xs) places none, length-map xs f)

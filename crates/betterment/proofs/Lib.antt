@@ -1,4 +1,3 @@
-pub mod Views
 pub mod Steps
 pub mod Theorem
 pub mod EveryKind

@@ -9,8 +9,8 @@ use Rattle.base.specs.Range.{within}
 use Rattle.deal.specs.Parties.{partyStepAllowed}
 use Rattle.deal.specs.Assets.{assetStepAllowed, lifeAllowed}
 use Rattle.deal.specs.Terms.{termsOf, termsTests, termsRefusal}
-use Rattle.deal.specs.Items.{collateralTests, collateralRefusal, guaranteeTests, guaranteeRefusal, collateralListAllowed, guaranteeListAllowed}
-use Rattle.deal.specs.Deals.{accepted, withoutProtection, addCollateralTests, addCollateralRefusal}
+use Rattle.deal.specs.Items.{collateralTests, collateralListTests, collateralRefusal, guaranteeTests, guaranteeRefusal, collateralListAllowed, guaranteeListAllowed}
+use Rattle.deal.specs.Deals.{recordAllowed, withoutProtection, addCollateralTests, addCollateralRefusal}
 use Rattle.deal.specs.declared.collateral.Collateral.{Collateral}
 use Rattle.deal.specs.declared.guarantee.Guarantee.{Guarantee}
 use Rattle.deal.specs.declared.deal.Deal.{Deal}
@@ -110,5 +110,5 @@ whole =
     ∷ []
 
 whole-edges : whole ≡ 0 ∷ 6 ∷ 40 ∷ 40 ∷ 40 ∷ 0 ∷ []
-unfolding addCollateralRefusal addCollateralTests accepted collateralListAllowed guaranteeListAllowed termsRefusal termsTests collateralRefusal collateralTests guaranteeRefusal guaranteeTests firstOr within partyStepAllowed assetStepAllowed lifeAllowed if_then_else_
+unfolding addCollateralRefusal addCollateralTests recordAllowed collateralListTests collateralListAllowed guaranteeListAllowed termsRefusal termsTests collateralRefusal collateralTests guaranteeRefusal guaranteeTests firstOr within partyStepAllowed assetStepAllowed lifeAllowed if_then_else_
 whole-edges = refl

@@ -2,30 +2,42 @@
 -- refused addition leaves an equal deal. Assumes nothing.
 use Prim.Native.Nat.{_+_, _<_}
 use mathlib.Core.Path.{_≡_, refl}
-use mathlib.Core.Bool.{true, false, not, _&&_}
+use mathlib.Core.Bool.{Bool, true, false, not, _&&_}
 use native.Mathlib.Omega.{arith}
 use lib.Dec.{leb, eqb}
 use borrow.Author.Tests.{le-leb, leb-false, eq-eqb, eqb-true}
 use Rattle.base.specs.All.{allPass}
+use Rattle.base.specs.Choice.{if_then_else_}
 use Rattle.base.proofs.Choice.{if-true, if-false}
 use Rattle.base.proofs.Every.{both}
 use Rattle.base.proofs.All.{all-set}
-use Rattle.base.proofs.FirstMet.{none-exactly, none-met}
-use Rattle.base.proofs.Tests.{and-true, told-not-true}
+use Rattle.base.proofs.FirstMet.{none-exactly, none-met, not-met}
+use Rattle.base.proofs.Tests.{and-true, not-false, told-not-true}
 use Rattle.deal.specs.Terms.{termsRefusal}
-use Rattle.deal.specs.Items.{collateralTests, collateralRefusal, collateralListAllowed, guaranteeTests, guaranteeRefusal, guaranteeListAllowed, appendCollateral, appendGuarantee, listLimit}
-use Rattle.deal.specs.Deals.{accepted, openedDeal, withoutProtection, addCollateralTests, addCollateralRefusal, withCollateral, addGuaranteeTests, addGuaranteeRefusal, withGuarantee}
+use Rattle.deal.specs.Items.{collateralTests, collateralRefusal, collateralListAllowed, collateralListTests, collateralListRefusal, collateralListWith, guaranteeTests, guaranteeRefusal, guaranteeListAllowed, guaranteeListTests, guaranteeListRefusal, guaranteeListWith, appendCollateral, appendGuarantee, listLimit}
+use Rattle.deal.specs.Deals.{accepted, recordAllowed, openedDeal, withoutProtection, addCollateralTests, addCollateralRefusal, withCollateral, addGuaranteeTests, addGuaranteeRefusal, withGuarantee}
 use Rattle.deal.specs.declared.terms.Terms.{Terms}
 use Rattle.deal.specs.declared.collateral.Collateral.{Collateral}
+use Rattle.deal.specs.declared.collateral.CollateralList.{CollateralList}
 use Rattle.deal.specs.declared.guarantee.Guarantee.{Guarantee}
+use Rattle.deal.specs.declared.guarantee.GuaranteeList.{GuaranteeList}
 use Rattle.deal.specs.declared.deal.Deal.{Deal}
 use Rattle.deal.proofs.Cases.{zero-refused}
 
--- what an accepted record is made of
-pub accepted-parts : (d : Deal) → accepted d ≡ true →
-    (termsRefusal (d .terms) ≡ 0) × ((collateralListAllowed (d .collateral) ≡ true) × (guaranteeListAllowed (d .guarantees) ≡ true))
+-- the two tests of a record
+pub accepted-allowed : (d : Deal) → accepted d ≡ true → recordAllowed d ≡ true
 unfolding accepted
-accepted-parts d e =
+accepted-allowed d e = e
+
+pub allowed-accepted : (d : Deal) → recordAllowed d ≡ true → accepted d ≡ true
+unfolding accepted
+allowed-accepted d e = e
+
+-- what a record that adding takes is made of
+pub allowed-parts : (d : Deal) → recordAllowed d ≡ true →
+    (termsRefusal (d .terms) ≡ 0) × ((collateralListAllowed (d .collateral) ≡ true) × (guaranteeListAllowed (d .guarantees) ≡ true))
+unfolding recordAllowed
+allowed-parts d e =
     let outer = both (eqb (termsRefusal (d .terms)) 0 && collateralListAllowed (d .collateral)) (guaranteeListAllowed (d .guarantees)) e in
     let inner = both (eqb (termsRefusal (d .terms)) 0) (collateralListAllowed (d .collateral)) (outer .0) in
     (eqb-true _ 0 (inner .0), (inner .1, outer .1))
@@ -33,67 +45,140 @@ accepted-parts d e =
 -- Opening
 
 pub new-accepted : (t : Terms) → termsRefusal t ≡ 0 → accepted (openedDeal t) ≡ true
-unfolding accepted openedDeal collateralListAllowed guaranteeListAllowed
+unfolding accepted recordAllowed openedDeal collateralListAllowed guaranteeListAllowed
 new-accepted t e =
     let q = eq-eqb (termsRefusal t) 0 e in
     rw (if-true _ (withoutProtection t) _ q, q)
 
 -- what stands beside a refusal is no deal
 pub refused-not-accepted : (t : Terms) → eqb (termsRefusal t) 0 ≡ false → accepted (openedDeal t) ≡ false
-unfolding accepted openedDeal
+unfolding accepted recordAllowed openedDeal
 refused-not-accepted t e = rw (if-false _ _ _ e, zero-refused) refl
 
 -- Adding collateral
+
+module _ (l : CollateralList) (c : Collateral) where
+  pub collateral-list-refused : eqb (collateralListRefusal l c) 0 ≡ false → collateralListWith l c ≡ l
+  unfolding collateralListWith
+  collateral-list-refused e = if-false _ _ _ e
+
+  pub collateral-list-added : collateralListRefusal l c ≡ 0 → collateralListWith l c ≡ appendCollateral l c
+  unfolding collateralListWith
+  collateral-list-added e = if-true _ _ _ (eq-eqb _ 0 e)
+
+  -- it has a place then, and is allowed
+  pub collateral-list-fits : collateralListRefusal l c ≡ 0 → (l .count < listLimit) × (collateralRefusal c ≡ 0)
+  unfolding collateralListRefusal collateralListTests collateralTests collateralRefusal
+  collateral-list-fits e =
+      let n = none-exactly (collateralListTests l c) refl e in
+      (leb-false _ _ (n .0), none-met (collateralTests c) (n .1))
+
+  pub collateral-list-allowed : collateralListAllowed l ≡ true → collateralListAllowed (collateralListWith l c) ≡ true
+  unfolding collateralListAllowed
+  collateral-list-allowed h = go (eqb (collateralListRefusal l c) 0) refl
+    where
+      go : (b : Bool) → eqb (collateralListRefusal l c) 0 ≡ b → collateralListAllowed (collateralListWith l c) ≡ true
+      go true e =
+          let r = eqb-true _ 0 e in
+          let f = collateral-list-fits r in
+          let a = both (leb (l .count) listLimit) _ h in
+          let more = all-set (λ x. eqb (collateralRefusal x) 0) (l .count) (l .items) c (a .1) (eq-eqb _ 0 (f .1)) in
+          rw (collateral-list-added r) (and-true _ _ (le-leb (l .count + 1) listLimit (omega (arith, f .0))) more)
+      go false e = rw (collateral-list-refused e) h
 
 module _ (d : Deal) (c : Collateral) where
   pub collateral-refused : eqb (addCollateralRefusal d c) 0 ≡ false → withCollateral d c ≡ d
   unfolding withCollateral
   collateral-refused e = if-false _ _ _ e
 
-  pub collateral-added : addCollateralRefusal d c ≡ 0 → withCollateral d c ≡ record { terms = d .terms; collateral = appendCollateral (d .collateral) c; guarantees = d .guarantees }
-  unfolding withCollateral
-  collateral-added e = if-true _ _ _ (eq-eqb _ 0 e)
+  -- a record that adding takes: its list decides
+  pub collateral-by-list : recordAllowed d ≡ true → addCollateralRefusal d c ≡ collateralListRefusal (d .collateral) c
+  unfolding addCollateralRefusal addCollateralTests collateralListRefusal
+  collateral-by-list h = not-met 40 _ _ (not-false _ h)
+
+  pub collateral-with : recordAllowed d ≡ true → withCollateral d c ≡ record { terms = d .terms; collateral = collateralListWith (d .collateral) c; guarantees = d .guarantees }
+  unfolding withCollateral collateralListWith if_then_else_
+  collateral-with h = rw (collateral-by-list h) (go (eqb (collateralListRefusal (d .collateral) c) 0))
+    where
+      go : (b : Bool) → (if b then record { terms = d .terms; collateral = appendCollateral (d .collateral) c; guarantees = d .guarantees } else d)
+          ≡ record { terms = d .terms; collateral = if b then appendCollateral (d .collateral) c else d .collateral; guarantees = d .guarantees }
+      go true = refl
+      go false = refl
+
+  pub collateral-kept-allowed : recordAllowed d ≡ true → recordAllowed (withCollateral d c) ≡ true
+  unfolding recordAllowed
+  collateral-kept-allowed h =
+      let p = allowed-parts d h in
+      rw (collateral-with h) (and-true _ _ (and-true _ _ (eq-eqb _ 0 (p .0)) (collateral-list-allowed (d .collateral) c (p .1 .0))) (p .1 .1))
 
   -- what an addition that is not refused tells
-  pub collateral-fits : addCollateralRefusal d c ≡ 0 → (accepted d ≡ true) × (d .collateral .count < listLimit) × (collateralRefusal c ≡ 0)
-  unfolding addCollateralRefusal addCollateralTests collateralTests collateralRefusal
-  collateral-fits e =
-      let n = none-exactly (addCollateralTests d c) refl e in
-      (told-not-true (accepted d) (accepted d) refl (n .0), leb-false _ _ (n .1 .0), none-met (collateralTests c) (n .1 .1))
+  pub collateral-added-allowed : addCollateralRefusal d c ≡ 0 → recordAllowed d ≡ true
+  unfolding addCollateralRefusal addCollateralTests collateralListTests collateralTests
+  collateral-added-allowed e = told-not-true (recordAllowed d) (recordAllowed d) refl (none-exactly (addCollateralTests d c) refl e .0)
 
   pub collateral-added-accepted : addCollateralRefusal d c ≡ 0 → accepted (withCollateral d c) ≡ true
-  unfolding accepted collateralListAllowed
-  collateral-added-accepted e =
-      let f = collateral-fits e in
-      let a = both _ (guaranteeListAllowed (d .guarantees)) (f .0) in
-      let b = both (eqb (termsRefusal (d .terms)) 0) _ (a .0) in
-      let l = both (leb (d .collateral .count) listLimit) _ (b .1) in
-      let more = all-set (λ x. eqb (collateralRefusal x) 0) (d .collateral .count) (d .collateral .items) c (l .1) (eq-eqb _ 0 (f .2)) in
-      rw (collateral-added e) (and-true _ _ (and-true _ _ (b .0) (and-true _ _ (le-leb (d .collateral .count + 1) listLimit (omega (arith, f .1))) more)) (a .1))
+  collateral-added-accepted e = allowed-accepted _ (collateral-kept-allowed (collateral-added-allowed e))
 
 -- Adding a guarantee
+
+module _ (l : GuaranteeList) (g : Guarantee) where
+  pub guarantee-list-refused : eqb (guaranteeListRefusal l g) 0 ≡ false → guaranteeListWith l g ≡ l
+  unfolding guaranteeListWith
+  guarantee-list-refused e = if-false _ _ _ e
+
+  pub guarantee-list-added : guaranteeListRefusal l g ≡ 0 → guaranteeListWith l g ≡ appendGuarantee l g
+  unfolding guaranteeListWith
+  guarantee-list-added e = if-true _ _ _ (eq-eqb _ 0 e)
+
+  -- it has a place then, and is allowed
+  pub guarantee-list-fits : guaranteeListRefusal l g ≡ 0 → (l .count < listLimit) × (guaranteeRefusal g ≡ 0)
+  unfolding guaranteeListRefusal guaranteeListTests guaranteeTests guaranteeRefusal
+  guarantee-list-fits e =
+      let n = none-exactly (guaranteeListTests l g) refl e in
+      (leb-false _ _ (n .0), none-met (guaranteeTests g) (n .1))
+
+  pub guarantee-list-allowed : guaranteeListAllowed l ≡ true → guaranteeListAllowed (guaranteeListWith l g) ≡ true
+  unfolding guaranteeListAllowed
+  guarantee-list-allowed h = go (eqb (guaranteeListRefusal l g) 0) refl
+    where
+      go : (b : Bool) → eqb (guaranteeListRefusal l g) 0 ≡ b → guaranteeListAllowed (guaranteeListWith l g) ≡ true
+      go true e =
+          let r = eqb-true _ 0 e in
+          let f = guarantee-list-fits r in
+          let a = both (leb (l .count) listLimit) _ h in
+          let more = all-set (λ x. eqb (guaranteeRefusal x) 0) (l .count) (l .items) g (a .1) (eq-eqb _ 0 (f .1)) in
+          rw (guarantee-list-added r) (and-true _ _ (le-leb (l .count + 1) listLimit (omega (arith, f .0))) more)
+      go false e = rw (guarantee-list-refused e) h
 
 module _ (d : Deal) (g : Guarantee) where
   pub guarantee-refused : eqb (addGuaranteeRefusal d g) 0 ≡ false → withGuarantee d g ≡ d
   unfolding withGuarantee
   guarantee-refused e = if-false _ _ _ e
 
-  pub guarantee-added : addGuaranteeRefusal d g ≡ 0 → withGuarantee d g ≡ record { terms = d .terms; collateral = d .collateral; guarantees = appendGuarantee (d .guarantees) g }
-  unfolding withGuarantee
-  guarantee-added e = if-true _ _ _ (eq-eqb _ 0 e)
+  -- a record that adding takes: its list decides
+  pub guarantee-by-list : recordAllowed d ≡ true → addGuaranteeRefusal d g ≡ guaranteeListRefusal (d .guarantees) g
+  unfolding addGuaranteeRefusal addGuaranteeTests guaranteeListRefusal
+  guarantee-by-list h = not-met 40 _ _ (not-false _ h)
+
+  pub guarantee-with : recordAllowed d ≡ true → withGuarantee d g ≡ record { terms = d .terms; collateral = d .collateral; guarantees = guaranteeListWith (d .guarantees) g }
+  unfolding withGuarantee guaranteeListWith if_then_else_
+  guarantee-with h = rw (guarantee-by-list h) (go (eqb (guaranteeListRefusal (d .guarantees) g) 0))
+    where
+      go : (b : Bool) → (if b then record { terms = d .terms; collateral = d .collateral; guarantees = appendGuarantee (d .guarantees) g } else d)
+          ≡ record { terms = d .terms; collateral = d .collateral; guarantees = if b then appendGuarantee (d .guarantees) g else d .guarantees }
+      go true = refl
+      go false = refl
+
+  pub guarantee-kept-allowed : recordAllowed d ≡ true → recordAllowed (withGuarantee d g) ≡ true
+  unfolding recordAllowed
+  guarantee-kept-allowed h =
+      let p = allowed-parts d h in
+      rw (guarantee-with h) (and-true _ _ (and-true _ _ (eq-eqb _ 0 (p .0)) (p .1 .0)) (guarantee-list-allowed (d .guarantees) g (p .1 .1)))
 
   -- what an addition that is not refused tells
-  pub guarantee-fits : addGuaranteeRefusal d g ≡ 0 → (accepted d ≡ true) × (d .guarantees .count < listLimit) × (guaranteeRefusal g ≡ 0)
-  unfolding addGuaranteeRefusal addGuaranteeTests guaranteeTests guaranteeRefusal
-  guarantee-fits e =
-      let n = none-exactly (addGuaranteeTests d g) refl e in
-      (told-not-true (accepted d) (accepted d) refl (n .0), leb-false _ _ (n .1 .0), none-met (guaranteeTests g) (n .1 .1))
+  pub guarantee-added-allowed : addGuaranteeRefusal d g ≡ 0 → recordAllowed d ≡ true
+  unfolding addGuaranteeRefusal addGuaranteeTests guaranteeListTests guaranteeTests
+  guarantee-added-allowed e = told-not-true (recordAllowed d) (recordAllowed d) refl (none-exactly (addGuaranteeTests d g) refl e .0)
 
   pub guarantee-added-accepted : addGuaranteeRefusal d g ≡ 0 → accepted (withGuarantee d g) ≡ true
-  unfolding accepted guaranteeListAllowed
-  guarantee-added-accepted e =
-      let f = guarantee-fits e in
-      let a = both (eqb (termsRefusal (d .terms)) 0 && collateralListAllowed (d .collateral)) _ (f .0) in
-      let l = both (leb (d .guarantees .count) listLimit) _ (a .1) in
-      let more = all-set (λ x. eqb (guaranteeRefusal x) 0) (d .guarantees .count) (d .guarantees .items) g (l .1) (eq-eqb _ 0 (f .2)) in
-      rw (guarantee-added e) (and-true _ _ (a .0) (and-true _ _ (le-leb (d .guarantees .count + 1) listLimit (omega (arith, f .1))) more))
+  guarantee-added-accepted e = allowed-accepted _ (guarantee-kept-allowed (guarantee-added-allowed e))

@@ -14,8 +14,8 @@ use Rattle.deal.specs.Ranges.{amountAllowed}
 use Rattle.deal.specs.Parties.{counterpartyKnown, partyStepAllowed}
 use Rattle.deal.specs.Assets.{goodsKnown, assetStepAllowed}
 use Rattle.deal.specs.Terms.{kindKnown, termsTests, termsRefusal}
-use Rattle.deal.specs.Items.{collateralTests, collateralRefusal, guaranteeTests, guaranteeRefusal, collateralListAllowed, guaranteeListAllowed}
-use Rattle.deal.specs.Deals.{accepted, zeroCollateral, zeroGuarantee, addCollateralTests, addCollateralRefusal, addGuaranteeTests, addGuaranteeRefusal}
+use Rattle.deal.specs.Items.{collateralTests, collateralListTests, collateralRefusal, guaranteeTests, guaranteeListTests, guaranteeRefusal, collateralListAllowed, guaranteeListAllowed}
+use Rattle.deal.specs.Deals.{accepted, recordAllowed, zeroCollateral, zeroGuarantee, addCollateralTests, addCollateralRefusal, addGuaranteeTests, addGuaranteeRefusal}
 use Rattle.deal.specs.declared.terms.Terms.{Terms}
 use Rattle.deal.specs.declared.collateral.Collateral.{Collateral}
 use Rattle.deal.specs.declared.guarantee.Guarantee.{Guarantee}
@@ -26,11 +26,11 @@ unfolding termsTests
 opening-exact t = exact _ refl
 
 pub collateral-exact : (d : Deal) (c : Collateral) → Exact (addCollateralTests d c)
-unfolding addCollateralTests collateralTests
+unfolding addCollateralTests collateralListTests collateralTests
 collateral-exact d c = exact _ refl
 
 pub guarantee-exact : (d : Deal) (g : Guarantee) → Exact (addGuaranteeTests d g)
-unfolding addGuaranteeTests guaranteeTests
+unfolding addGuaranteeTests guaranteeListTests guaranteeTests
 guarantee-exact d g = exact _ refl
 
 -- as it reads for one number: opening is refused with 3 exactly if a step is wrong, and neither the amount nor a code is
@@ -44,18 +44,18 @@ pub opening-3 : (t : Terms) → (termsRefusal t ≡ 3 → Three t) × (Three t �
 unfolding termsTests termsRefusal
 opening-3 t = opening-exact t .0 3 refl
 
--- 40 falls exactly on records that are not accepted, whatever is added
-pub collateral-40 : (d : Deal) (c : Collateral) → (addCollateralRefusal d c ≡ 40 → accepted d ≡ false) × (accepted d ≡ false → addCollateralRefusal d c ≡ 40)
-unfolding addCollateralTests addCollateralRefusal collateralTests
+-- 40 falls exactly on records that are not allowed, whatever is added
+pub collateral-40 : (d : Deal) (c : Collateral) → (addCollateralRefusal d c ≡ 40 → recordAllowed d ≡ false) × (recordAllowed d ≡ false → addCollateralRefusal d c ≡ 40)
+unfolding addCollateralTests addCollateralRefusal collateralListTests collateralTests
 collateral-40 d c =
     let e = collateral-exact d c .0 40 refl in
-    (λ h. told-not-false (accepted d) (accepted d) refl (e .0 h), λ h. e .1 (not-true (accepted d) h))
+    (λ h. told-not-false (recordAllowed d) (recordAllowed d) refl (e .0 h), λ h. e .1 (not-true (recordAllowed d) h))
 
-pub guarantee-40 : (d : Deal) (g : Guarantee) → (addGuaranteeRefusal d g ≡ 40 → accepted d ≡ false) × (accepted d ≡ false → addGuaranteeRefusal d g ≡ 40)
-unfolding addGuaranteeTests addGuaranteeRefusal guaranteeTests
+pub guarantee-40 : (d : Deal) (g : Guarantee) → (addGuaranteeRefusal d g ≡ 40 → recordAllowed d ≡ false) × (recordAllowed d ≡ false → addGuaranteeRefusal d g ≡ 40)
+unfolding addGuaranteeTests addGuaranteeRefusal guaranteeListTests guaranteeTests
 guarantee-40 d g =
     let e = guarantee-exact d g .0 40 refl in
-    (λ h. told-not-false (accepted d) (accepted d) refl (e .0 h), λ h. e .1 (not-true (accepted d) h))
+    (λ h. told-not-false (recordAllowed d) (recordAllowed d) refl (e .0 h), λ h. e .1 (not-true (recordAllowed d) h))
 
 -- an accepted record, field by field: terms that opening takes, counts of at most sixteen, and each counted item one that adding
 -- takes
@@ -67,7 +67,7 @@ pub record Fits (d : Deal) : Type 0 where
   pub guarantees : (i : ℕ) → i < d .guarantees .count → i < length (d .guarantees .items) → guaranteeRefusal (getD (d .guarantees .items) i zeroGuarantee) ≡ 0
 
 pub accepted-fits : (d : Deal) → accepted d ≡ true → Fits d
-unfolding accepted collateralListAllowed guaranteeListAllowed
+unfolding accepted recordAllowed collateralListAllowed guaranteeListAllowed
 accepted-fits d e =
     let outer = both (eqb (termsRefusal (d .terms)) 0 && collateralListAllowed (d .collateral)) _ e in
     let inner = both (eqb (termsRefusal (d .terms)) 0) _ (outer .0) in
@@ -82,7 +82,7 @@ accepted-fits d e =
     }
 
 pub fits-accepted : (d : Deal) → Fits d → accepted d ≡ true
-unfolding accepted collateralListAllowed guaranteeListAllowed
+unfolding accepted recordAllowed collateralListAllowed guaranteeListAllowed
 fits-accepted d f =
     let c = all-from (λ x. eqb (collateralRefusal x) 0) (d .collateral .count) (d .collateral .items) zeroCollateral (λ i h k. eq-eqb _ 0 (f .collateral i h k)) in
     let g = all-from (λ x. eqb (guaranteeRefusal x) 0) (d .guarantees .count) (d .guarantees .items) zeroGuarantee (λ i h k. eq-eqb _ 0 (f .guarantees i h k)) in

@@ -1,5 +1,7 @@
 pub mod Cases
 pub mod Answers
 pub mod Deals
+pub mod Editions
 pub mod Exact
 pub mod Plain
+pub mod Views

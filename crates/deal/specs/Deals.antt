@@ -2,16 +2,18 @@
 use Prim.Native.Nat.{ℕ}
 use mathlib.Core.Bool.{Bool, not, _&&_}
 use mathlib.Core.List.{List, _∷_}
-use lib.Dec.{leb, eqb}
+use lib.Dec.{eqb}
 use lib.ListN.{length, replicate}
 use Rattle.base.specs.Choice.{if_then_else_}
 use Rattle.base.specs.Places.{inPlaces}
 use Rattle.base.specs.FirstMet.{Test, _when_, firstMet}
 use Rattle.deal.specs.Terms.{termsOf, termsRefusal}
-use Rattle.deal.specs.Items.{collateralTests, guaranteeTests, collateralListAllowed, guaranteeListAllowed, listLimit, appendCollateral, appendGuarantee}
+use Rattle.deal.specs.Items.{collateralListAllowed, guaranteeListAllowed, listLimit, collateralListTests, guaranteeListTests, appendCollateral, appendGuarantee}
 use Rattle.deal.specs.declared.terms.Terms.{Terms}
 use Rattle.deal.specs.declared.collateral.Collateral.{Collateral}
+use Rattle.deal.specs.declared.collateral.CollateralList.{CollateralList}
 use Rattle.deal.specs.declared.guarantee.Guarantee.{Guarantee}
+use Rattle.deal.specs.declared.guarantee.GuaranteeList.{GuaranteeList}
 use Rattle.deal.specs.declared.deal.Deal.{Deal}
 
 -- places with nothing in them; the fields in the order in which they are sent
@@ -40,6 +42,10 @@ zeroGuarantee = record {
   unreflected = 0;
 }
 
+-- the deal that these parts make
+abbrev pub dealOf : Terms → CollateralList → GuaranteeList → Deal
+dealOf t cs gs = record { terms = t; collateral = cs; guarantees = gs }
+
 -- "A new deal's lists are all zeros"; "Without protection all its lists are empty" (01: Betterments)
 abbrev pub withoutProtection : Terms → Deal
 withoutProtection t = record {
@@ -60,17 +66,21 @@ dealWith t cs gs = record {
 unfoldable pub openedDeal : Terms → Deal
 openedDeal t = if eqb (termsRefusal t) 0 then withoutProtection t else withoutProtection (termsOf 0 0 0 0 0 0 0 0 0 0)
 
--- an accepted deal (01: Betterments): not "a record with a list count above sixteen, or with a field, of the deal or of a counted
--- item, that opening or adding would refuse"; "however it came about"
-unfoldable pub accepted : Deal → Bool
-accepted d = eqb (termsRefusal (d .terms)) 0 && collateralListAllowed (d .collateral) && guaranteeListAllowed (d .guarantees)
+-- what adding asks of a record: no "list count above sixteen", and no "field, of the deal or of a counted item, that opening or adding
+-- would refuse"
+unfoldable pub recordAllowed : Deal → Bool
+recordAllowed d = eqb (termsRefusal (d .terms)) 0 && collateralListAllowed (d .collateral) && guaranteeListAllowed (d .guarantees)
 
--- what adding tests: "40 .. adding's before 6"; "6 that list is full; then 1, 2, 3, 4, 5 .."
+-- what reporting accepts. "An accepted deal is a record on which reporting's 40 does not fall, however it came about" (01: Betterments)
+unfoldable pub accepted : Deal → Bool
+accepted d = recordAllowed d
+
+-- what adding tests: "40 .. adding's before 6"; then what adding to its list tests
 unfoldable pub addCollateralTests : Deal → Collateral → List (Test ℕ)
-addCollateralTests d c = 40 when not (accepted d) ∷ 6 when leb listLimit (d .collateral .count) ∷ collateralTests c
+addCollateralTests d c = 40 when not (recordAllowed d) ∷ collateralListTests (d .collateral) c
 
 unfoldable pub addGuaranteeTests : Deal → Guarantee → List (Test ℕ)
-addGuaranteeTests d g = 40 when not (accepted d) ∷ 6 when leb listLimit (d .guarantees .count) ∷ guaranteeTests g
+addGuaranteeTests d g = 40 when not (recordAllowed d) ∷ guaranteeListTests (d .guarantees) g
 
 unfoldable pub addCollateralRefusal : Deal → Collateral → ℕ
 addCollateralRefusal d c = firstMet (addCollateralTests d c)

@@ -4,6 +4,7 @@ use mathlib.Core.Bool.{Bool, not, _&&_}
 use mathlib.Core.List.{List, [], _∷_}
 use lib.Dec.{leb, ltb, eqb}
 use lib.ListN.{take, set}
+use Rattle.base.specs.Choice.{if_then_else_}
 use Rattle.base.specs.FirstMet.{Test, _when_, firstMet}
 use Rattle.base.specs.All.{allPass}
 use Rattle.deal.specs.Ranges.{amountAllowed, currencyAllowed, daysAllowed, conditionAllowed}
@@ -71,3 +72,23 @@ appendCollateral l c = record { items = set (l .items) (l .count) c; count = l .
 
 abbrev pub appendGuarantee : GuaranteeList → Guarantee → GuaranteeList
 appendGuarantee l g = record { items = set (l .items) (l .count) g; count = l .count + 1 }
+
+-- ADDING TO A LIST: "6 that list is full; then 1, 2, 3, 4, 5 as above on the item's fields; 7 ..; 8 .."
+unfoldable pub collateralListTests : CollateralList → Collateral → List (Test ℕ)
+collateralListTests l c = 6 when leb listLimit (l .count) ∷ collateralTests c
+
+unfoldable pub guaranteeListTests : GuaranteeList → Guarantee → List (Test ℕ)
+guaranteeListTests l g = 6 when leb listLimit (l .count) ∷ guaranteeTests g
+
+unfoldable pub collateralListRefusal : CollateralList → Collateral → ℕ
+collateralListRefusal l c = firstMet (collateralListTests l c)
+
+unfoldable pub guaranteeListRefusal : GuaranteeList → Guarantee → ℕ
+guaranteeListRefusal l g = firstMet (guaranteeListTests l g)
+
+-- the list after it, the same beside a refusal
+unfoldable pub collateralListWith : CollateralList → Collateral → CollateralList
+collateralListWith l c = let longer = appendCollateral l c in if eqb (collateralListRefusal l c) 0 then longer else l
+
+unfoldable pub guaranteeListWith : GuaranteeList → Guarantee → GuaranteeList
+guaranteeListWith l g = let longer = appendGuarantee l g in if eqb (guaranteeListRefusal l g) 0 then longer else l

@@ -1,8 +1,10 @@
 pub mod Answers
 pub mod Assets
 pub mod Deals
+pub mod Editions
 pub mod Fields
 pub mod Items
 pub mod Parties
 pub mod Ranges
 pub mod Terms
+pub mod Views

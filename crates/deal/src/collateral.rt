@@ -1,11 +1,10 @@
 // Collateral, and the list of it that a deal holds.
 ghost use mathlib.Core.Bool.{_&&_};
 ghost use mathlib.Core.Path.{_≡_};
-ghost use Prim.Native.Nat.{_<_};
 ghost use Rattle.deal.specs.Answers.{answerNumber};
 ghost use Rattle.deal.specs.Assets.{lifeAllowed};
 ghost use Rattle.deal.specs.Ranges.{conditionAllowed, daysAllowed};
-ghost use Rattle.deal.specs.Items.{collateralRefusal, collateralListAllowed, appendCollateral};
+ghost use Rattle.deal.specs.Items.{collateralListAllowed, collateralListRefusal, collateralListWith, collateralRefusal};
 use crate::answer::Answer;
 use crate::asset::Asset;
 use crate::deal::Deal;
@@ -31,6 +30,12 @@ pub struct Collateral {
 pub struct CollateralList {
     pub items: [Collateral; 16],
     pub count: usize,
+}
+
+// A list after an addition, and what adding answers. The list stands first, which spares the code that is made a copy.
+pub struct AddedCollateral {
+    pub list: CollateralList,
+    pub answer: Answer,
 }
 
 impl Collateral {
@@ -119,14 +124,22 @@ impl CollateralList {
         true
     }
 
-    // One item more, behind the counted ones.
-    pub fn append(mut self, item: Collateral) -> CollateralList
-        requires { ⌜ self .count < 16 ⌝ }
-        ensures { λ r. ⌜ r ≡ appendCollateral self item ⌝ }
+    // One item more, behind the counted ones; the same list beside a refusal.
+    pub fn add(mut self, item: Collateral) -> AddedCollateral
+        ensures { λ r. ⌜ (r .list ≡ collateralListWith self item) × (answerNumber (r .answer) ≡ collateralListRefusal self item) ⌝ }
     {
         let at = self.count;
-        self.items[at] = item;
-        self.count = at + 1;
-        self
+        if at >= Deal::COLLATERAL_LIMIT {
+            return AddedCollateral {
+                list: self,
+                answer: Answer::ListFull,
+            };
+        }
+        let answer = item.check();
+        if answer.is_accepted() {
+            self.items[at] = item;
+            self.count = at + 1;
+        }
+        AddedCollateral { list: self, answer }
     }
 }

@@ -2,7 +2,7 @@
 ghost use mathlib.Core.Path.{_≡_};
 ghost use Rattle.deal.specs.Answers.{answerNumber};
 ghost use Rattle.deal.specs.Terms.{termsOf, termsRefusal};
-ghost use Rattle.deal.specs.Deals.{accepted as acceptedOf, openedDeal, withoutProtection, addCollateralRefusal, withCollateral, addGuaranteeRefusal, withGuarantee};
+ghost use Rattle.deal.specs.Deals.{accepted as acceptedOf, recordAllowed, openedDeal, withoutProtection, addCollateralRefusal, withCollateral, addGuaranteeRefusal, withGuarantee};
 use crate::answer::Answer;
 use crate::asset::Asset;
 use crate::collateral::Collateral;
@@ -86,9 +86,9 @@ impl Deal {
         Reply { answer, deal }
     }
 
-    // Whether this is an accepted record: no count too high, no field that opening or adding would refuse.
-    pub fn accepted(self) -> bool
-        ensures { λ r. ⌜ r ≡ acceptedOf self ⌝ }
+    // Whether this is a record that adding takes: no count too high, no field that opening or adding would refuse.
+    pub fn allowed(self) -> bool
+        ensures { λ r. ⌜ r ≡ recordAllowed self ⌝ }
     {
         let terms = self.terms;
         let collateral = self.collateral;
@@ -103,28 +103,28 @@ impl Deal {
         guarantees.allowed()
     }
 
+    // Whether this is an accepted deal, one that reporting takes.
+    pub fn accepted(self) -> bool
+        ensures { λ r. ⌜ r ≡ acceptedOf self ⌝ }
+    {
+        self.allowed()
+    }
+
     // One more item of collateral; the same deal beside a refusal.
     pub fn add_collateral(mut self, item: Collateral) -> Reply
         ensures { λ r. ⌜ (answerNumber (r .answer) ≡ addCollateralRefusal self item) × (r .deal ≡ withCollateral self item) ⌝ }
     {
-        if !self.accepted() {
+        if !self.allowed() {
             return Reply {
                 answer: Answer::RecordNotAccepted,
                 deal: self,
             };
         }
-        let count = self.collateral.count;
-        if count >= Deal::COLLATERAL_LIMIT {
-            return Reply {
-                answer: Answer::ListFull,
-                deal: self,
-            };
-        }
-        let answer = item.check();
-        if answer.is_accepted() {
-            let list = self.collateral;
-            self.collateral = list.append(item);
-        }
+        let list = self.collateral;
+        let added = list.add(item);
+        let longer = added.list;
+        self.collateral = longer;
+        let answer = added.answer;
         Reply { answer, deal: self }
     }
 
@@ -132,24 +132,17 @@ impl Deal {
     pub fn add_guarantee(mut self, item: Guarantee) -> Reply
         ensures { λ r. ⌜ (answerNumber (r .answer) ≡ addGuaranteeRefusal self item) × (r .deal ≡ withGuarantee self item) ⌝ }
     {
-        if !self.accepted() {
+        if !self.allowed() {
             return Reply {
                 answer: Answer::RecordNotAccepted,
                 deal: self,
             };
         }
-        let count = self.guarantees.count;
-        if count >= Deal::GUARANTEE_LIMIT {
-            return Reply {
-                answer: Answer::ListFull,
-                deal: self,
-            };
-        }
-        let answer = item.check();
-        if answer.is_accepted() {
-            let list = self.guarantees;
-            self.guarantees = list.append(item);
-        }
+        let list = self.guarantees;
+        let added = list.add(item);
+        let longer = added.list;
+        self.guarantees = longer;
+        let answer = added.answer;
         Reply { answer, deal: self }
     }
 }

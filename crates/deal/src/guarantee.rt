@@ -1,10 +1,9 @@
 // Guarantees, and the list of them that a deal holds.
 ghost use mathlib.Core.Bool.{_&&_};
 ghost use mathlib.Core.Path.{_≡_};
-ghost use Prim.Native.Nat.{_<_};
 ghost use Rattle.deal.specs.Answers.{answerNumber};
 ghost use Rattle.deal.specs.Ranges.{conditionAllowed, daysAllowed};
-ghost use Rattle.deal.specs.Items.{guaranteeRefusal, guaranteeListAllowed, appendGuarantee};
+ghost use Rattle.deal.specs.Items.{guaranteeListAllowed, guaranteeListRefusal, guaranteeListWith, guaranteeRefusal};
 use crate::answer::Answer;
 use crate::deal::Deal;
 use crate::party::Party;
@@ -28,6 +27,12 @@ pub struct Guarantee {
 pub struct GuaranteeList {
     pub items: [Guarantee; 16],
     pub count: usize,
+}
+
+// A list after an addition, and what adding answers. The list stands first, which spares the code that is made a copy.
+pub struct AddedGuarantee {
+    pub list: GuaranteeList,
+    pub answer: Answer,
 }
 
 impl Guarantee {
@@ -109,14 +114,22 @@ impl GuaranteeList {
         true
     }
 
-    // One guarantee more, behind the counted ones.
-    pub fn append(mut self, item: Guarantee) -> GuaranteeList
-        requires { ⌜ self .count < 16 ⌝ }
-        ensures { λ r. ⌜ r ≡ appendGuarantee self item ⌝ }
+    // One guarantee more, behind the counted ones; the same list beside a refusal.
+    pub fn add(mut self, item: Guarantee) -> AddedGuarantee
+        ensures { λ r. ⌜ (r .list ≡ guaranteeListWith self item) × (answerNumber (r .answer) ≡ guaranteeListRefusal self item) ⌝ }
     {
         let at = self.count;
-        self.items[at] = item;
-        self.count = at + 1;
-        self
+        if at >= Deal::GUARANTEE_LIMIT {
+            return AddedGuarantee {
+                list: self,
+                answer: Answer::ListFull,
+            };
+        }
+        let answer = item.check();
+        if answer.is_accepted() {
+            self.items[at] = item;
+            self.count = at + 1;
+        }
+        AddedGuarantee { list: self, answer }
     }
 }

@@ -19,15 +19,16 @@ use Rattle.deal.specs.Parties.{partyStepAllowed}
 use Rattle.deal.specs.Assets.{assetStepAllowed, lifeAllowed}
 use Rattle.deal.specs.Terms.{termsTests, termsRefusal}
 use Rattle.deal.specs.Items.{collateralTests, collateralRefusal, guaranteeTests, guaranteeRefusal, collateralListAllowed, guaranteeListAllowed}
-use Rattle.deal.specs.Deals.{accepted}
+use Rattle.deal.specs.Deals.{accepted, recordAllowed}
+use Rattle.deal.specs.Editions.{tableFor}
 use Rattle.deal.specs.declared.deal.Deal.{Deal}
 use Rattle.relief.specs.declared.report.Report.{Report}
-use Rattle.relief.specs.Grounds.{groundNumber}
-use Rattle.relief.specs.Outcomes.{outcomeValue, outcomeGround}
-use Rattle.relief.specs.Recognition.{shortOriginal, shortResidual, cutOf, collateralValue, collateralGrounds, collateralOutcome, guaranteeValue, guaranteeGrounds, guaranteeOutcome}
+use Rattle.relief.specs.Grounds.{groundNumber, groundWith}
+use Rattle.relief.specs.Outcomes.{outcomeValue, outcomeGround, outcomeFor}
+use Rattle.relief.specs.Recognition.{shortOriginal, shortResidual, cutOf, collateralValue, collateralGrounds, collateralGround, collateralOutcome, guaranteeValue, guaranteeGrounds, guaranteeGround, guaranteeOutcome}
 use Rattle.relief.specs.Exposure.{lentCut, raisedExposure, collateralTotal, exposureAfter, weightedAmount}
 use Rattle.relief.specs.Report.{fullReport, reportUnder, reportOf}
 
 unfoldable pub computed : Deal → Report
-unfolding accepted collateralListAllowed guaranteeListAllowed termsRefusal termsTests collateralRefusal collateralTests guaranteeRefusal guaranteeTests firstOr within partyStepAllowed assetStepAllowed lifeAllowed if_then_else_ least between roundUp sumOf zipWith eligible bankDebtEligible equityOrGold rowOf bandOf issuerColumn debtHaircut haircut lentHaircut columnOf tableWeight counterpartyWeight providerWeight minimumPeriod holdingPeriod guaranteePeriod scaled currencyCut collateralCut keepShare reduced mismatched adjusted recognised raised weighted lighter equal before portion coveredAfter covered rest weightedSum groundNumber outcomeValue outcomeGround shortOriginal shortResidual cutOf collateralValue collateralGrounds collateralOutcome guaranteeValue guaranteeGrounds guaranteeOutcome lentCut raisedExposure collateralTotal exposureAfter weightedAmount fullReport reportUnder
+unfolding accepted recordAllowed tableFor collateralListAllowed guaranteeListAllowed termsRefusal termsTests collateralRefusal collateralTests guaranteeRefusal guaranteeTests firstOr within partyStepAllowed assetStepAllowed lifeAllowed if_then_else_ least between roundUp sumOf zipWith eligible bankDebtEligible equityOrGold rowOf bandOf issuerColumn debtHaircut haircut lentHaircut columnOf tableWeight counterpartyWeight providerWeight minimumPeriod holdingPeriod guaranteePeriod scaled currencyCut collateralCut keepShare reduced mismatched adjusted recognised raised weighted lighter equal before portion coveredAfter covered rest weightedSum groundNumber groundWith outcomeValue outcomeGround outcomeFor shortOriginal shortResidual cutOf collateralValue collateralGrounds collateralGround collateralOutcome guaranteeValue guaranteeGrounds guaranteeGround guaranteeOutcome lentCut raisedExposure collateralTotal exposureAfter weightedAmount fullReport reportUnder
 computed d = reportOf d

@@ -1,6 +1,7 @@
 pub mod Cases
 pub mod Amounts
 pub mod Assembly
+pub mod ByNumber
 pub mod Computed
 pub mod Grounds
 pub mod NoWorse

@@ -8,6 +8,7 @@ use native.Mathlib.Omega.{arith}
 use native.Mathlib.Nat.{le-trans}
 use native.Mathlib.Decide.{ℕ-discrete}
 use borrow.Author.Tests.{leb-false}
+use Rattle.base.specs.Choice.{if_then_else_}
 use Rattle.base.proofs.FirstMet.{NoneMet}
 use Rattle.base.proofs.Tests.{not-false, told-not-true}
 use Rattle.tables.specs.Table.{Table, TableLaws, Goods, Provider}
@@ -23,29 +24,45 @@ use Rattle.cover.proofs.Levels.{lighter-mono}
 use Rattle.deal.specs.declared.terms.Terms.{Terms}
 use Rattle.deal.specs.declared.collateral.Collateral.{Collateral}
 use Rattle.deal.specs.declared.guarantee.Guarantee.{Guarantee}
-use Rattle.relief.specs.Outcomes.{outcomeValue}
-use Rattle.relief.specs.Recognition.{cutOf, collateralValue, collateralGrounds, collateralOutcome, counterpartyWeightOf, providerWeightOf, guaranteeValue, guaranteeGrounds, guaranteeOutcome, protectionOf}
-use Rattle.relief.proofs.Outcomes.{LeaveOut, value-or-none, value-mono}
+use Rattle.relief.specs.Grounds.{groundNumber, groundWith}
+use Rattle.relief.specs.Outcomes.{outcomeValue, outcomeGround, outcomeFor}
+use Rattle.relief.specs.Recognition.{cutOf, collateralValue, collateralGrounds, collateralGround, collateralOutcome, counterpartyWeightOf, providerWeightOf, guaranteeValue, guaranteeGrounds, guaranteeGround, guaranteeOutcome, protectionOf}
+use Rattle.relief.proofs.Outcomes.{LeaveOut, ground-given, value-or-none, value-mono}
 use Rattle.relief.proofs.NoWorse.{SameOrBetter, SameOrDeals, NoWorseTerms, NoWorseCollateral, NoWorseGuarantee}
 use Rattle.relief.proofs.Unmet.{_also_, condition-stays, original-stays, residual-stays, rated-stays, weight-stays}
 
 -- Of any table
 
 module _ (table : Table) (t : Terms) where
-  pub collateral-leaves : (c : Collateral) → LeaveOut (collateralGrounds table t c)
-  unfolding collateralGrounds outcomeValue
-  collateral-leaves c = refl also refl also refl also refl also refl also refl also tt
+  pub collateral-leaves : (v : ℕ) (c : Collateral) → LeaveOut v (collateralGrounds table t c)
+  unfolding collateralGrounds outcomeFor outcomeValue groundNumber groundWith if_then_else_
+  collateral-leaves v c = record {
+    worthless = refl also refl also refl also refl also refl also refl also tt;
+    known = refl also refl also refl also refl also refl also refl also tt;
+  }
 
-  pub guarantee-leaves : (g : Guarantee) → LeaveOut (guaranteeGrounds table t g)
-  unfolding guaranteeGrounds outcomeValue
-  guarantee-leaves g = refl also refl also refl also refl also refl also refl also refl also tt
+  pub guarantee-leaves : (v : ℕ) (g : Guarantee) → LeaveOut v (guaranteeGrounds table t g)
+  unfolding guaranteeGrounds outcomeFor outcomeValue groundNumber groundWith if_then_else_
+  guarantee-leaves v g = record {
+    worthless = refl also refl also refl also refl also refl also refl also refl also tt;
+    known = refl also refl also refl also refl also refl also refl also refl also tt;
+  }
+
+  -- an outcome's ground by its number
+  pub collateral-number : (c : Collateral) → outcomeGround (collateralOutcome table t c) ≡ collateralGround table t c
+  unfolding collateralOutcome collateralGround
+  collateral-number c = ground-given (collateralValue table t c) (collateralGrounds table t c) (collateral-leaves _ c)
+
+  pub guarantee-number : (g : Guarantee) → outcomeGround (guaranteeOutcome table t g) ≡ guaranteeGround table t g
+  unfolding guaranteeOutcome guaranteeGround
+  guarantee-number g = ground-given (guaranteeValue t g) (guaranteeGrounds table t g) (guarantee-leaves _ g)
 
   -- 29: a guarantee covers nothing, or weighs less than the counterparty
   pub protection-lighter : (g : Guarantee) → LeftOutOrLighter (counterpartyWeightOf table t) (protectionOf table t g)
-  unfolding guaranteeOutcome guaranteeGrounds
+  unfolding guaranteeOutcome guaranteeGround guaranteeGrounds
   protection-lighter g =
       ⊎-elim (λ z. inl z) (λ n. inr (leb-false _ _ (n .1 .1 .1 .1 .1 .1 .0)))
-      (value-or-none (guaranteeValue t g) (guaranteeGrounds table t g) (guarantee-leaves g))
+      (value-or-none (guaranteeValue t g) (guaranteeGrounds table t g) (guarantee-leaves _ g))
 
 -- "The weight comes from class and step alone"
 pub counterparty-same : (table : Table) {t t′ : Terms} → NoWorseTerms t t′ → counterpartyWeightOf table t′ ≡ counterpartyWeightOf table t
@@ -122,10 +139,10 @@ module _ {table : Table} (laws : TableLaws table) where
 
       -- COLLATERAL NO WORSE IS WORTH NO LESS
       pub collateral-no-less : outcomeValue (collateralOutcome table t c) ≤ outcomeValue (collateralOutcome table t′ c′)
-      unfolding collateralOutcome
+      unfolding collateralOutcome collateralGround
       collateral-no-less =
           value-mono (collateralValue table t c) (collateralValue table t′ c′) (collateralGrounds table t c) (collateralGrounds table t′ c′)
-          (collateral-leaves table t c) (λ n. (collateral-stays n, value-no-less n))
+          (collateral-leaves table t _ c) (λ n. (collateral-stays n, value-no-less n))
 
     module _ {g g′ : Guarantee} (item : NoWorseGuarantee (t .currency) g g′) where
       weighs-no-more : providerWeightOf table g′ ≤ providerWeightOf table g
@@ -150,10 +167,10 @@ module _ {table : Table} (laws : TableLaws table) where
           recognised-no-less (terms .fields .residual) (item .fields .amount) haircut (item .fields .residual)
 
       guarantee-no-less : outcomeValue (guaranteeOutcome table t g) ≤ outcomeValue (guaranteeOutcome table t′ g′)
-      unfolding guaranteeOutcome
+      unfolding guaranteeOutcome guaranteeGround
       guarantee-no-less =
           value-mono (guaranteeValue t g) (guaranteeValue t′ g′) (guaranteeGrounds table t g) (guaranteeGrounds table t′ g′)
-          (guarantee-leaves table t g) (λ n. (guarantee-stays n, guaranteed-no-less))
+          (guarantee-leaves table t _ g) (λ n. (guarantee-stays n, guaranteed-no-less))
 
       -- A GUARANTEE NO WORSE COVERS NO LESS BELOW ANY WEIGHT
       pub protection-no-less : (w : ℕ) → lighter w (protectionOf table t g) ≤ lighter w (protectionOf table t′ g′)

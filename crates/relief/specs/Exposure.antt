@@ -1,4 +1,4 @@
--- The exposure after collateral and the weighted amount, from a deal's terms and items. 01: From items to the weighted amount, 3 to 5
+-- The exposure after collateral and the weighted amount of a deal. 01: From items to the weighted amount, 3 to 5
 use Prim.Native.Nat.{ℕ, _-_, min}
 use mathlib.Core.List.{List, map}
 use Rattle.base.specs.Sum.{sumOf}
@@ -8,9 +8,9 @@ use Rattle.scaling.specs.Scaling.{scaled}
 use Rattle.valuation.specs.Exposure.{raised, weighted}
 use Rattle.cover.specs.Cover.{weightedSum}
 use Rattle.cover.specs.declared.protection.Protection.{Protection}
+use Rattle.deal.specs.Views.{View}
 use Rattle.deal.specs.declared.terms.Terms.{Terms}
 use Rattle.deal.specs.declared.collateral.Collateral.{Collateral}
-use Rattle.deal.specs.declared.guarantee.Guarantee.{Guarantee}
 use Rattle.relief.specs.Outcomes.{outcomeValue}
 use Rattle.relief.specs.Recognition.{collateralOutcome, protectionOf, counterpartyWeightOf}
 
@@ -28,12 +28,13 @@ collateralTotal table t cs = sumOf (λ c. outcomeValue (collateralOutcome table 
 
 -- "E* is that less all collateral values, not below 0, and never above the deal's amount (22.4 decides over 22.40)" (the library's
 -- difference is never below 0)
-unfoldable pub exposureAfter : Table → Terms → List Collateral → ℕ
-exposureAfter table t cs = min (t .amount) (raisedExposure table t - collateralTotal table t cs)
+unfoldable pub exposureAfter : Table → View → ℕ
+exposureAfter table v = min (v .terms .amount) (raisedExposure table (v .terms) - collateralTotal table (v .terms) (v .collateral))
 
-abbrev pub protections : Table → Terms → List Guarantee → List Protection
-protections table t gs = map (protectionOf table t) gs
+-- the pieces that cover it: "Recognised guarantees cover E*", in order of adding
+abbrev pub piecesOf : Table → View → List Protection
+piecesOf table v = map (protectionOf table (v .terms)) (v .guarantees)
 
 -- "The weighted amount is the sum of portion × weight, divided by 100 once and rounded up"
-unfoldable pub weightedAmount : Table → Terms → List Collateral → List Guarantee → ℕ
-weightedAmount table t cs gs = weighted (weightedSum (counterpartyWeightOf table t) (exposureAfter table t cs) (protections table t gs))
+unfoldable pub weightedAmount : Table → View → ℕ
+weightedAmount table v = weighted (weightedSum (counterpartyWeightOf table (v .terms)) (exposureAfter table v) (piecesOf table v))

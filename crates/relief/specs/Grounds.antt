@@ -1,5 +1,7 @@
 -- The grounds' numbers. 01: Grounds for leaving an item out.
-use Prim.Native.Nat.{ℕ}
+use Prim.Native.Nat.{ℕ, _-_}
+use mathlib.Core.List.{List, [], _∷_}
+use lib.ListN.{getD}
 use Rattle.relief.specs.declared.ground.Ground.{Ground}
 use Rattle.relief.specs.declared.ground.Ground.the-variants.{NotLawful, Related, AlreadyInRating, NotEligible, ShortOriginalTerm, ShortResidualTerm, NotDirect, UnratedEntity, WeightNotBelow}
 
@@ -22,3 +24,19 @@ groundNumber NotDirect = 27
 groundNumber UnratedEntity = 28
 -- "provider's weight not below the counterparty's"
 groundNumber WeightNotBelow = 29
+
+-- the ground with a number from 21 to 29 (`number-of-ground`)
+unfoldable pub groundWith : ℕ → Ground
+groundWith number =
+    getD
+    (NotLawful
+    ∷ Related
+    ∷ AlreadyInRating
+    ∷ NotEligible
+    ∷ ShortOriginalTerm
+    ∷ ShortResidualTerm
+    ∷ NotDirect
+    ∷ UnratedEntity
+    ∷ [])
+    (number - 21)
+    WeightNotBelow

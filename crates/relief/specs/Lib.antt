@@ -1,3 +1,4 @@
+pub mod ByNumber
 pub mod Exposure
 pub mod Grounds
 pub mod Outcomes

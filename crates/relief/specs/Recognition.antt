@@ -1,10 +1,10 @@
 -- Which items are recognised, and what they are worth. 01: Grounds for leaving an item out; From items to the weighted amount, 1
--- and 2. The figures that depend on type, class and step come from a table (`table2019` for reporting)
+-- and 2. The figures that depend on type, class and step come from a table
 use Prim.Native.Nat.{ℕ}
 use mathlib.Core.Bool.{Bool, not, _&&_}
 use mathlib.Core.List.{List, [], _∷_}
 use lib.Dec.{leb, ltb, eqb}
-use Rattle.base.specs.FirstMet.{Test, _when_, firstOr}
+use Rattle.base.specs.FirstMet.{Test, _when_, firstMet}
 use Rattle.tables.specs.Table.{Table}
 use Rattle.scaling.specs.Period.{holdingPeriod, guaranteePeriod}
 use Rattle.valuation.specs.Haircuts.{collateralCut, currencyCut}
@@ -14,9 +14,7 @@ use Rattle.deal.specs.declared.terms.Terms.{Terms}
 use Rattle.deal.specs.declared.collateral.Collateral.{Collateral}
 use Rattle.deal.specs.declared.guarantee.Guarantee.{Guarantee}
 use Rattle.relief.specs.declared.outcome.Outcome.{Outcome}
-use Rattle.relief.specs.declared.outcome.Outcome.the-variants.{Valued, LeftOut}
-use Rattle.relief.specs.declared.ground.Ground.the-variants.{NotLawful, Related, AlreadyInRating, NotEligible, ShortOriginalTerm, ShortResidualTerm, NotDirect, UnratedEntity, WeightNotBelow}
-use Rattle.relief.specs.Outcomes.{outcomeValue}
+use Rattle.relief.specs.Outcomes.{outcomeFor, outcomeValue}
 
 -- "mismatch with original term under 360", a year; "mismatch with residual term of 90 or less", three months. CRE22.35, CRE22.99
 unfoldable pub shortOriginal : Terms → ℕ → ℕ → Bool
@@ -35,20 +33,24 @@ cutOf table t c =
 unfoldable pub collateralValue : Table → Terms → Collateral → ℕ
 collateralValue table t c = recognised (c .amount) (cutOf table t c) (c .residual) (t .residual)
 
--- 21, 22, 23, 24, 25, 26 (`groundNumber`; `collateral-ground` reads this list in numbers)
-unfoldable pub collateralGrounds : Table → Terms → Collateral → List (Test Outcome)
+-- "21 not lawful; 22 related; 23 already in the rating; 24 not eligible by type and step ..; 25 mismatch with original term under 360;
+-- 26 mismatch with residual term of 90 or less"
+unfoldable pub collateralGrounds : Table → Terms → Collateral → List (Test ℕ)
 collateralGrounds table t c =
-    LeftOut NotLawful when eqb (c .lawful) 0
-    ∷ LeftOut Related when eqb (c .unrelated) 0
-    ∷ LeftOut AlreadyInRating when eqb (c .unreflected) 0
-    ∷ LeftOut NotEligible when not (table .eligible (c .asset .goods) (c .asset .step) (c .listed))
-    ∷ LeftOut ShortOriginalTerm when shortOriginal t (c .residual) (c .original)
-    ∷ LeftOut ShortResidualTerm when shortResidual t (c .residual)
+    21 when eqb (c .lawful) 0
+    ∷ 22 when eqb (c .unrelated) 0
+    ∷ 23 when eqb (c .unreflected) 0
+    ∷ 24 when not (table .eligible (c .asset .goods) (c .asset .step) (c .listed))
+    ∷ 25 when shortOriginal t (c .residual) (c .original)
+    ∷ 26 when shortResidual t (c .residual)
     ∷ []
 
--- "First that applies"; its value where none does
+-- "First that applies", or 0
+unfoldable pub collateralGround : Table → Terms → Collateral → ℕ
+collateralGround table t c = firstMet (collateralGrounds table t c)
+
 unfoldable pub collateralOutcome : Table → Terms → Collateral → Outcome
-collateralOutcome table t c = firstOr (Valued (collateralValue table t c)) (collateralGrounds table t c)
+collateralOutcome table t c = outcomeFor (collateralGround table t c) (collateralValue table t c)
 
 -- Guarantees
 
@@ -71,20 +73,23 @@ unfoldable pub guaranteeValue : Terms → Guarantee → ℕ
 guaranteeValue t g =
     recognised (g .amount) (currencyCut (g .currency) (t .currency) (guaranteePeriod (t .interval))) (g .residual) (t .residual)
 
--- 21, 27, 23, 28, 25, 26, 29 (`guarantee-ground`)
-unfoldable pub guaranteeGrounds : Table → Terms → Guarantee → List (Test Outcome)
+-- "21; 27 not direct; 23; 28 other entity unrated; 25; 26; 29 provider's weight not below the counterparty's"
+unfoldable pub guaranteeGrounds : Table → Terms → Guarantee → List (Test ℕ)
 guaranteeGrounds table t g =
-    LeftOut NotLawful when eqb (g .lawful) 0
-    ∷ LeftOut NotDirect when eqb (g .direct) 0
-    ∷ LeftOut AlreadyInRating when eqb (g .unreflected) 0
-    ∷ LeftOut UnratedEntity when isUnratedEntity g
-    ∷ LeftOut ShortOriginalTerm when shortOriginal t (g .residual) (g .original)
-    ∷ LeftOut ShortResidualTerm when shortResidual t (g .residual)
-    ∷ LeftOut WeightNotBelow when leb (counterpartyWeightOf table t) (providerWeightOf table g)
+    21 when eqb (g .lawful) 0
+    ∷ 27 when eqb (g .direct) 0
+    ∷ 23 when eqb (g .unreflected) 0
+    ∷ 28 when isUnratedEntity g
+    ∷ 25 when shortOriginal t (g .residual) (g .original)
+    ∷ 26 when shortResidual t (g .residual)
+    ∷ 29 when leb (counterpartyWeightOf table t) (providerWeightOf table g)
     ∷ []
 
+unfoldable pub guaranteeGround : Table → Terms → Guarantee → ℕ
+guaranteeGround table t g = firstMet (guaranteeGrounds table t g)
+
 unfoldable pub guaranteeOutcome : Table → Terms → Guarantee → Outcome
-guaranteeOutcome table t g = firstOr (Valued (guaranteeValue t g)) (guaranteeGrounds table t g)
+guaranteeOutcome table t g = outcomeFor (guaranteeGround table t g) (guaranteeValue t g)
 
 -- what it covers with: its value, 0 where it is left out, at its provider's weight
 abbrev pub protectionOf : Table → Terms → Guarantee → Protection

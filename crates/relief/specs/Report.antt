@@ -5,21 +5,22 @@ use mathlib.Core.List.{List, [], _∷_, map, zipWith}
 use Rattle.base.specs.Choice.{if_then_else_}
 use Rattle.base.specs.FirstMet.{_when_, firstMet}
 use Rattle.base.specs.Places.{inPlaces}
-use Rattle.tables.specs.Table.{Table, table2019}
+use Rattle.tables.specs.Table.{Table}
 use Rattle.cover.specs.Cover.{portions, rest}
-use Rattle.deal.specs.Items.{listLimit, countedCollateral, countedGuarantees}
+use Rattle.deal.specs.Items.{listLimit}
 use Rattle.deal.specs.Deals.{accepted}
+use Rattle.deal.specs.Editions.{tableFor}
+use Rattle.deal.specs.Views.{View, viewOf}
 use Rattle.deal.specs.declared.answer.Answer.the-variants.{Accepted, RecordNotAccepted}
 use Rattle.deal.specs.declared.terms.Terms.{Terms}
 use Rattle.deal.specs.declared.collateral.Collateral.{Collateral}
-use Rattle.deal.specs.declared.guarantee.Guarantee.{Guarantee}
 use Rattle.deal.specs.declared.deal.Deal.{Deal}
 use Rattle.relief.specs.declared.outcome.Outcome.the-variants.{Valued}
 use Rattle.relief.specs.declared.collateral.CollateralReport.{CollateralReport}
 use Rattle.relief.specs.declared.guarantee.GuaranteeReport.{GuaranteeReport}
 use Rattle.relief.specs.declared.report.Report.{Report}
 use Rattle.relief.specs.Recognition.{collateralOutcome, guaranteeOutcome}
-use Rattle.relief.specs.Exposure.{exposureAfter, protections, weightedAmount}
+use Rattle.relief.specs.Exposure.{exposureAfter, piecesOf, weightedAmount}
 
 -- "Places past a count hold value 0 and portion 0"
 abbrev pub noCollateral : CollateralReport
@@ -29,26 +30,27 @@ abbrev pub noGuarantee : GuaranteeReport
 noGuarantee = record { outcome = Valued 0; portion = 0 }
 
 -- "for each item either its value or its ground", in order of adding
-abbrev pub collateralReports : Table → Terms → List Collateral → List CollateralReport
-collateralReports table t cs = map (λ c. record { outcome = collateralOutcome table t c }) cs
+abbrev pub collateralReport : Table → Terms → Collateral → CollateralReport
+collateralReport table t c = record { outcome = collateralOutcome table t c }
 
--- and "each guarantee's portion" of the exposure E
-abbrev pub guaranteeReports : Table → Terms → ℕ → List Guarantee → List GuaranteeReport
-guaranteeReports table t E gs =
-    zipWith (λ g p. record { outcome = guaranteeOutcome table t g; portion = p }) gs (portions E (protections table t gs))
+abbrev pub collateralReports : Table → View → List CollateralReport
+collateralReports table v = map (collateralReport table (v .terms)) (v .collateral)
+
+-- and "each guarantee's portion"
+abbrev pub guaranteeReports : Table → View → List GuaranteeReport
+guaranteeReports table v =
+    zipWith (λ g p. record { outcome = guaranteeOutcome table (v .terms) g; portion = p }) (v .guarantees) (portions (exposureAfter table v) (piecesOf table v))
 
 -- of an accepted deal
-unfoldable pub fullReport : Table → Terms → List Collateral → List Guarantee → Report
-fullReport table t cs gs =
-    let E = exposureAfter table t cs in
-    record {
-      answer = Accepted;
-      exposure = E;
-      collateral = inPlaces listLimit noCollateral (collateralReports table t cs);
-      guarantees = inPlaces listLimit noGuarantee (guaranteeReports table t E gs);
-      rest = rest E (protections table t gs);
-      weighted = weightedAmount table t cs gs;
-    }
+unfoldable pub fullReport : Table → View → Report
+fullReport table v = record {
+  answer = Accepted;
+  exposure = exposureAfter table v;
+  collateral = inPlaces listLimit noCollateral (collateralReports table v);
+  guarantees = inPlaces listLimit noGuarantee (guaranteeReports table v);
+  rest = rest (exposureAfter table v) (piecesOf table v);
+  weighted = weightedAmount table v;
+}
 
 -- "40 is its one refusal"
 unfoldable pub reportRefusal : Deal → ℕ
@@ -67,11 +69,8 @@ refusedReport = record {
 
 -- the report of a deal under a table
 unfoldable pub reportUnder : Table → Deal → Report
-reportUnder table d =
-    if accepted d
-    then fullReport table (d .terms) (countedCollateral (d .collateral)) (countedGuarantees (d .guarantees))
-    else refusedReport
+reportUnder table d = if accepted d then fullReport table (viewOf d) else refusedReport
 
 -- REPORTING A DEAL: what reporting gives, for every record
 abbrev pub reportOf : Deal → Report
-reportOf d = reportUnder table2019 d
+reportOf d = reportUnder (tableFor (d .terms)) d

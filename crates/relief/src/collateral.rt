@@ -1,16 +1,16 @@
 // What a deal's collateral is worth.
 ghost use mathlib.Core.Path.{_≡_};
 ghost use mathlib.Core.Bool.{true};
+ghost use mathlib.Core.List.{map};
 ghost use Prim.Native.Nat.{_≤_};
+ghost use Rattle.deal.specs.Editions.{tableFor};
 ghost use Rattle.deal.specs.Items.{collateralListAllowed, countedCollateral, listLimit};
 ghost use Rattle.base.specs.Places.{inPlaces};
 ghost use Rattle.scaling.specs.Period.{holdingPeriod};
 ghost use Rattle.scaling.specs.Root.{Rooted};
-ghost use Rattle.tables.specs.Table.{table2019};
 ghost use Rattle.relief.specs.Recognition.{collateralOutcome, cutOf};
 ghost use Rattle.relief.specs.Exposure.{collateralTotal};
-ghost use Rattle.relief.specs.Outcomes.{outcomeValue};
-ghost use Rattle.relief.specs.Report.{collateralReports, noCollateral};
+ghost use Rattle.relief.specs.Report.{collateralReport, noCollateral};
 use crate::ground::Ground;
 use crate::maturity::short_original;
 use crate::maturity::short_residual;
@@ -36,8 +36,8 @@ pub struct CollateralValues {
 
 // The first ground that applies, or the value after these haircuts.
 fn outcome_after_cut(terms: Terms, item: Collateral, cut: u64) -> Outcome
-    requires { ⌜ (item .amount ≤ 1000000000000) × (cut ≡ cutOf table2019 terms item) ⌝ }
-    ensures { λ r. ⌜ r ≡ collateralOutcome table2019 terms item ⌝ }
+    requires { ⌜ (item .amount ≤ 1000000000000) × (cut ≡ cutOf (tableFor terms) terms item) ⌝ }
+    ensures { λ r. ⌜ r ≡ collateralOutcome (tableFor terms) terms item ⌝ }
 {
     let asset = item.asset;
     if item.lawful == 0 {
@@ -64,7 +64,7 @@ fn outcome_after_cut(terms: Terms, item: Collateral, cut: u64) -> Outcome
 // One item of collateral, under the root of the deal's period.
 pub fn value_item(terms: Terms, item: Collateral, root: Root) -> Outcome
     requires { ⌜ (item .amount ≤ 1000000000000) × ((root .period ≡ holdingPeriod (terms .kind) (terms .interval)) × Rooted root) ⌝ }
-    ensures { λ r. ⌜ r ≡ collateralOutcome table2019 terms item ⌝ }
+    ensures { λ r. ⌜ r ≡ collateralOutcome (tableFor terms) terms item ⌝ }
 {
     let asset = item.asset;
     let own = haircut(asset.goods, asset.step, asset.life);
@@ -72,19 +72,10 @@ pub fn value_item(terms: Terms, item: Collateral, root: Root) -> Outcome
     outcome_after_cut(terms, item, cut)
 }
 
-// What it is worth; nothing where it is left out.
-pub fn item_value(terms: Terms, item: Collateral, root: Root) -> u64
-    requires { ⌜ (item .amount ≤ 1000000000000) × ((root .period ≡ holdingPeriod (terms .kind) (terms .interval)) × Rooted root) ⌝ }
-    ensures { λ r. ⌜ r ≡ outcomeValue (collateralOutcome table2019 terms item) ⌝ }
-{
-    let outcome = value_item(terms, item, root);
-    outcome.value()
-}
-
 // Every item of a deal's collateral.
 pub fn value_collateral(terms: Terms, list: CollateralList, root: Root) -> CollateralValues
     requires { ⌜ (collateralListAllowed list ≡ true) × ((root .period ≡ holdingPeriod (terms .kind) (terms .interval)) × Rooted root) ⌝ }
-    ensures { λ r. ⌜ (r .reports ≡ inPlaces listLimit noCollateral (collateralReports table2019 terms (countedCollateral list))) × (r .total ≡ collateralTotal table2019 terms (countedCollateral list)) ⌝ }
+    ensures { λ r. ⌜ (r .reports ≡ inPlaces listLimit noCollateral (map (collateralReport (tableFor terms) terms) (countedCollateral list))) × (r .total ≡ collateralTotal (tableFor terms) terms (countedCollateral list)) ⌝ }
 {
     let items = list.items;
     let count = list.count;

@@ -5,13 +5,12 @@ ghost use mathlib.Core.Path.{_≡_};
 ghost use Prim.Native.Nat.{_≤_};
 ghost use lib.ListN.{drop, replicate, take};
 ghost use Rattle.base.specs.Places.{inPlaces};
+ghost use Rattle.deal.specs.Editions.{tableFor};
 ghost use Rattle.deal.specs.Items.{countedGuarantees, guaranteeListAllowed, guaranteeRefusal, listLimit};
 ghost use Rattle.scaling.specs.Period.{guaranteePeriod};
 ghost use Rattle.scaling.specs.Root.{Rooted};
-ghost use Rattle.tables.specs.Table.{table2019};
 ghost use Rattle.valuation.specs.Haircuts.{currencyCut};
 ghost use Rattle.relief.specs.Recognition.{counterpartyWeightOf, guaranteeOutcome, isUnratedEntity, protectionOf, providerWeightOf};
-ghost use Rattle.relief.specs.Exposure.{protections};
 ghost use Rattle.relief.specs.Report.{noGuarantee};
 ghost use Rattle.relief.specs.Working.{covering, noProtection, uncovered};
 use crate::ground::Ground;
@@ -60,8 +59,8 @@ fn unrated_entity(item: Guarantee) -> bool
 // The first ground that applies, or the value after this haircut. `weight` is the provider's, `limit` the counterparty's.
 fn outcome_after_cut(terms: Terms, item: Guarantee, cut: u64, weight: u64, limit: u64) -> Outcome
     requires { ⌜ (item .amount ≤ 1000000000000) × (cut ≡ currencyCut (item .currency) (terms .currency) (guaranteePeriod (terms .interval))) ⌝ }
-    requires { ⌜ (weight ≡ providerWeightOf table2019 item) × (limit ≡ counterpartyWeightOf table2019 terms) ⌝ }
-    ensures { λ r. ⌜ r ≡ guaranteeOutcome table2019 terms item ⌝ }
+    requires { ⌜ (weight ≡ providerWeightOf (tableFor terms) item) × (limit ≡ counterpartyWeightOf (tableFor terms) terms) ⌝ }
+    ensures { λ r. ⌜ r ≡ guaranteeOutcome (tableFor terms) terms item ⌝ }
 {
     if item.lawful == 0 {
         return Outcome::LeftOut(Ground::NotLawful);
@@ -89,9 +88,9 @@ fn outcome_after_cut(terms: Terms, item: Guarantee, cut: u64, weight: u64, limit
 
 // One guarantee; `limit` is the counterparty's weight, `root` that of the guarantees' period.
 pub fn value_item(terms: Terms, item: Guarantee, limit: u64, root: Root) -> GuaranteeOutcome
-    requires { ⌜ (guaranteeRefusal item ≡ 0) × (limit ≡ counterpartyWeightOf table2019 terms) ⌝ }
+    requires { ⌜ (guaranteeRefusal item ≡ 0) × (limit ≡ counterpartyWeightOf (tableFor terms) terms) ⌝ }
     requires { ⌜ (root .period ≡ guaranteePeriod (terms .interval)) × Rooted root ⌝ }
-    ensures { λ r. ⌜ (r .outcome ≡ guaranteeOutcome table2019 terms item) × (r .protection ≡ protectionOf table2019 terms item) ⌝ }
+    ensures { λ r. ⌜ (r .outcome ≡ guaranteeOutcome (tableFor terms) terms item) × (r .protection ≡ protectionOf (tableFor terms) terms item) ⌝ }
 {
     let provider = item.provider;
     let weight = provider_weight(provider.class, provider.step);
@@ -104,16 +103,6 @@ pub fn value_item(terms: Terms, item: Guarantee, limit: u64, root: Root) -> Guar
     }
 }
 
-// What it covers with.
-pub fn item_protection(terms: Terms, item: Guarantee, limit: u64, root: Root) -> Protection
-    requires { ⌜ (guaranteeRefusal item ≡ 0) × (limit ≡ counterpartyWeightOf table2019 terms) ⌝ }
-    requires { ⌜ (root .period ≡ guaranteePeriod (terms .interval)) × Rooted root ⌝ }
-    ensures { λ r. ⌜ r ≡ protectionOf table2019 terms item ⌝ }
-{
-    let valued = value_item(terms, item, limit, root);
-    valued.protection
-}
-
 // Every guarantee of a deal.
 pub fn value_guarantees(
     terms: Terms,
@@ -121,10 +110,10 @@ pub fn value_guarantees(
     limit: u64,
     root: Root,
 ) -> GuaranteeValues
-    requires { ⌜ (guaranteeListAllowed list ≡ true) × (limit ≡ counterpartyWeightOf table2019 terms) ⌝ }
+    requires { ⌜ (guaranteeListAllowed list ≡ true) × (limit ≡ counterpartyWeightOf (tableFor terms) terms) ⌝ }
     requires { ⌜ (root .period ≡ guaranteePeriod (terms .interval)) × Rooted root ⌝ }
-    ensures { λ r. ⌜ r .reports ≡ inPlaces listLimit noGuarantee (map (uncovered table2019 terms) (countedGuarantees list)) ⌝ }
-    ensures { λ r. ⌜ r .protections ≡ inPlaces listLimit noProtection (protections table2019 terms (countedGuarantees list)) ⌝ }
+    ensures { λ r. ⌜ r .reports ≡ inPlaces listLimit noGuarantee (map (uncovered (tableFor terms) terms) (countedGuarantees list)) ⌝ }
+    ensures { λ r. ⌜ r .protections ≡ inPlaces listLimit noProtection (map (protectionOf (tableFor terms) terms) (countedGuarantees list)) ⌝ }
 {
     let items = list.items;
     let count = list.count;

@@ -1,7 +1,7 @@
 // Relief of a deal: what its collateral and guarantees are worth, what they leave of the exposure, and the report of it
 // (01: From items to the weighted amount; Grounds for leaving an item out; Reporting a deal).
+pub mod bare;
 pub mod collateral;
-pub mod deal_amounts;
 pub mod exposure;
 pub mod ground;
 pub mod guarantee;
@@ -9,3 +9,4 @@ pub mod maturity;
 pub mod outcome;
 pub mod report;
 pub mod roots;
+pub mod weight;

@@ -1,25 +1,31 @@
 // The report of a deal: the exposure after collateral, what became of every item, and the weighted amount.
 ghost use mathlib.Core.Bool.{true};
+ghost use mathlib.Core.List.{map};
 ghost use mathlib.Core.Path.{_≡_};
 ghost use Rattle.deal.specs.Answers.{answerNumber};
-ghost use Rattle.deal.specs.Items.{collateralListAllowed, countedCollateral, countedGuarantees, guaranteeListAllowed};
-ghost use Rattle.deal.specs.Terms.{termsRefusal};
-ghost use Rattle.tables.specs.Table.{table2019};
+ghost use Rattle.deal.specs.Deals.{accepted as acceptedOf, dealOf};
+ghost use Rattle.deal.specs.Editions.{tableFor};
+ghost use Rattle.deal.specs.Views.{viewOf};
+ghost use Rattle.relief.specs.ByNumber.{collateralPlaces, guaranteePlaces, placeOf};
 ghost use Rattle.relief.specs.Report.{fullReport, refusedReport, reportOf, reportRefusal};
+ghost use Rattle.relief.specs.Working.{RootsOf};
 use crate::collateral::CollateralReport;
 use crate::collateral::value_collateral;
-use crate::deal_amounts::amounts_of;
+use crate::exposure::exposure_after;
+use crate::exposure::lent_cut;
 use crate::guarantee::GuaranteeReport;
 use crate::guarantee::value_guarantees;
 use crate::guarantee::with_portions;
 use crate::outcome::Outcome;
 use crate::roots::Roots;
+use crate::weight::weight_of;
+use cover::cover::cover;
 use deal::answer::Answer;
 use deal::collateral::CollateralList;
 use deal::deal::Deal;
 use deal::guarantee::GuaranteeList;
 use deal::terms::Terms;
-use tables::weights::counterparty_weight;
+use valuation::exposure::weighted;
 
 pub struct Report {
     pub answer: Answer,
@@ -57,31 +63,35 @@ pub fn refused() -> Report
     }
 }
 
-fn full_report(terms: Terms, collateral: CollateralList, guarantees: GuaranteeList) -> Report
-    requires { ⌜ (termsRefusal terms ≡ 0) × ((collateralListAllowed collateral ≡ true) × (guaranteeListAllowed guarantees ≡ true)) ⌝ }
-    ensures { λ r. ⌜ r ≡ fullReport table2019 terms (countedCollateral collateral) (countedGuarantees guarantees) ⌝ }
+// The report of an accepted deal with these lists, given the roots of its periods.
+pub fn full_report(
+    terms: Terms,
+    collateral: CollateralList,
+    guarantees: GuaranteeList,
+    roots: Roots,
+) -> Report
+    requires { ⌜ acceptedOf (dealOf terms collateral guarantees) ≡ true ⌝ }
+    requires { ⌜ RootsOf terms roots ⌝ }
+    ensures { λ r. ⌜ r ≡ fullReport (tableFor terms) (viewOf (dealOf terms collateral guarantees)) ⌝ }
 {
-    let counterparty = terms.counterparty;
-    let none = Roots::NONE;
-    let roots = none.for_terms(terms);
+    let weight = weight_of(terms);
     let pledged = value_collateral(terms, collateral, roots.deal);
-    let weight = counterparty_weight(counterparty.class, counterparty.step);
     let guaranteed = value_guarantees(terms, guarantees, weight, roots.guarantees);
+    let exposure = exposure_after(terms, lent_cut(terms, roots.deal), pledged.total);
     let protections = guaranteed.protections;
     let count = guarantees.count;
-    let amounts = amounts_of(terms, roots.deal, pledged.total, protections, count);
-    let covered = amounts.cover;
+    let covered = cover(protections, count, exposure, weight);
     let values = guaranteed.reports;
     let portions = covered.portions;
     let reports = with_portions(values, portions, count);
     let pledges = pledged.reports;
     Report {
         answer: Answer::Accepted,
-        exposure: amounts.exposure,
+        exposure,
         collateral: pledges,
         guarantees: reports,
         rest: covered.rest,
-        weighted: amounts.weighted,
+        weighted: weighted(covered.weighted_sum),
     }
 }
 
@@ -89,6 +99,7 @@ impl Report {
     // Reporting a deal. Its one refusal is a record that is not accepted.
     pub fn of(deal: Deal) -> Report
         ensures { λ r. ⌜ (answerNumber (r .answer) ≡ reportRefusal deal) × (r ≡ reportOf deal) ⌝ }
+        ensures { λ r. ⌜ (map (λ p. placeOf (p .outcome)) (r .collateral) ≡ collateralPlaces deal) × (map (λ p. placeOf (p .outcome)) (r .guarantees) ≡ guaranteePlaces deal) ⌝ }
     {
         if !deal.accepted() {
             return refused();
@@ -96,6 +107,8 @@ impl Report {
         let terms = deal.terms;
         let collateral = deal.collateral;
         let guarantees = deal.guarantees;
-        full_report(terms, collateral, guarantees)
+        let none = Roots::NONE;
+        let roots = none.for_terms(terms);
+        full_report(terms, collateral, guarantees, roots)
     }
 }

@@ -4,15 +4,17 @@ use mathlib.Core.Path.{_≡_, sym, _∙_}
 use native.Mathlib.Omega.{arith}
 use lib.ListN.{drop}
 use borrow.Author.Tests.{eq-eqb, ne-eqb}
-use Rattle.base.specs.FirstMet.{firstOr}
-use Rattle.base.proofs.FirstMet.{first-given, first-later}
+use Rattle.base.specs.Choice.{if_then_else_}
+use Rattle.base.specs.FirstMet.{firstMet, firstOr}
+use Rattle.base.proofs.FirstMet.{met-first, not-met}
 use Rattle.base.proofs.Tests.{tests, told-not, told-true, told-false}
-use Rattle.tables.specs.Table.{table2019}
+use Rattle.deal.specs.Editions.{tableFor}
 use Rattle.deal.specs.declared.terms.Terms.{Terms}
 use Rattle.deal.specs.declared.collateral.Collateral.{Collateral}
 use Rattle.relief.specs.declared.outcome.Outcome.{Outcome}
-use Rattle.relief.specs.declared.outcome.Outcome.the-variants.{Valued}
-use Rattle.relief.specs.Recognition.{collateralValue, collateralGrounds, collateralOutcome}
+use Rattle.relief.specs.Grounds.{groundWith}
+use Rattle.relief.specs.Outcomes.{outcomeFor}
+use Rattle.relief.specs.Recognition.{collateralValue, collateralGrounds, collateralGround, collateralOutcome}
 use Rattle.relief.proofs.collateral.outcome_after_cut.Statement.{statement}
 use Rattle.relief.proofs.collateral.outcome_after_cut.Tie as tie
 

@@ -1,74 +1,32 @@
--- `deal::deal::Deal::add_collateral` meets its contract. Assumes nothing.
+-- `deal::deal::Deal::add_collateral` meets its contract: 40 first, then its list decides. Assumes nothing.
 use mathlib.Core.Path.{_≡_, refl, sym, _∙_}
-use borrow.Author.Tests.{le-leb, lt-leb, eqb-true}
-use lib.ListN.{drop}
-use Rattle.base.specs.FirstMet.{firstMet}
-use Rattle.base.proofs.FirstMet.{met-first, not-met}
-use Rattle.base.proofs.Tests.{tests, told-not, told-true, told-false}
+use mathlib.Core.Bool.{true}
+use Rattle.base.proofs.FirstMet.{met-first}
+use Rattle.base.proofs.Tests.{told-not, told-not-true}
 use Rattle.deal.specs.Answers.{answerNumber}
-use Rattle.deal.specs.Items.{collateralRefusal}
-use Rattle.deal.specs.Deals.{addCollateralTests, addCollateralRefusal}
-use Rattle.deal.proofs.Answers.{agreed}
-use Rattle.deal.proofs.Deals.{collateral-refused, collateral-added}
+use Rattle.deal.specs.Deals.{recordAllowed, addCollateralTests, addCollateralRefusal}
+use Rattle.deal.proofs.Deals.{collateral-refused, collateral-by-list, collateral-with}
 use Rattle.deal.proofs.deal.Deal.add_collateral.Statement.{statement}
 use Rattle.deal.proofs.deal.Deal.add_collateral.Tie as tie
 
-accepted-requires : tie.Need-accepted-requires
-accepted-requires c κs = tt
-
-check-requires : tie.Need-check-requires
-check-requires c κs = tt
-
-is-accepted-requires : tie.Need-is-accepted-requires
-is-accepted-requires c κs = tt
-
-append-requires : tie.Need-append-requires
-append-requires c κs = search tests
+allowed-requires : tie.Need-allowed-requires
+allowed-requires c κs = tt
 
 returns : tie.Need-returns
 unfolding addCollateralRefusal addCollateralTests answerNumber
 returns c =
-    let e = met-first 40 _ _ (told-not (c .before .accepted .ensures) (c .if1 .taken)) in
+    let e = met-first 40 _ _ (told-not (c .before .allowed .ensures) (c .if1 .taken)) in
     (sym e, sym (collateral-refused _ _ (rw e refl)))
 
-past-40 : (c : tie.Else1) → let a = c .before .before .args in addCollateralRefusal (a .self) (a .item) ≡ firstMet (drop 1 (addCollateralTests (a .self) (a .item)))
-unfolding addCollateralRefusal addCollateralTests
-past-40 c = not-met 40 _ _ (told-not (c .before .accepted .ensures) (c .if1 .left))
+add-requires : tie.Need-add-requires
+add-requires c κs = tt
 
 returns-2 : tie.Need-returns-2
-unfolding addCollateralTests answerNumber
 returns-2 c =
-    let e = past-40 (c .before) ∙ met-first 6 _ _ (le-leb _ _ (c .if2 .taken)) in
-    (sym e, sym (collateral-refused _ _ (rw e refl)))
-
--- the record is accepted and the list not full, so the item's own fields decide
-past-6 : (c : tie.Else2) → let a = c .before .before .before .args in addCollateralRefusal (a .self) (a .item) ≡ collateralRefusal (a .item)
-unfolding addCollateralTests collateralRefusal
-past-6 c = past-40 (c .before) ∙ not-met 6 _ _ (lt-leb _ _ (c .if2 .left))
-
-returns-3 : tie.Need-returns-3
-returns-3 c =
-    let a = c .before .before .before in
-    let e = past-6 (a .before .before) in
-    let z = eqb-true _ 0 (told-true _ _ (agreed (a .is-accepted .ensures) (a .before .check .ensures)) (c .before .before .if3 .taken)) in
-    (a .before .check .ensures ∙ sym e, rw (c .append .ensures) (sym (collateral-added _ _ (e ∙ z))))
-
-returns-4 : tie.Need-returns-4
-returns-4 c =
-    let a = c .before in
-    let e = past-6 (a .before .before) in
-    let z = told-false _ _ (agreed (a .is-accepted .ensures) (a .before .check .ensures)) (c .if3 .left) in
-    (a .before .check .ensures ∙ sym e, sym (collateral-refused _ _ (rw e z)))
+    let else = c .before .before .before in
+    let h = told-not-true _ _ (else .before .allowed .ensures) (else .if1 .left) in
+    let a = c .before .add .ensures in
+    (a .1 ∙ sym (collateral-by-list _ _ h), rw (a .0) (sym (collateral-with _ _ h)))
 
 pub add-collateral-spec : {M : Type 1} → statement M
-add-collateral-spec =
-    tie.close
-    (tie.spec
-    accepted-requires
-    returns
-    returns-2
-    check-requires
-    is-accepted-requires
-    append-requires
-    returns-3
-    returns-4)
+add-collateral-spec = tie.close (tie.spec allowed-requires returns add-requires returns-2)

@@ -1,7 +1,6 @@
 -- Deals and their views: what is accepted of the one is accepted of the other, and every accepted view is some deal's. Assumes nothing.
 use Prim.Native.Nat.{_≤_}
 use mathlib.Core.Path.{_≡_, refl, sym, ap, subst, _∙_}
-use mathlib.Core.Logic.{_⊎_, inl, inr}
 use mathlib.Core.Bool.{Bool, true, false, _&&_}
 use native.Mathlib.Omega.{arith}
 use lib.Dec.{leb, eqb}
@@ -12,15 +11,14 @@ use Rattle.base.specs.All.{allPass}
 use Rattle.base.proofs.All.{all-at, all-from}
 use Rattle.base.proofs.Every.{both}
 use Rattle.base.proofs.Tests.{and-true}
 use Rattle.deal.specs.Terms.{termsRefusal}
 use Rattle.deal.specs.Items.{collateralRefusal, guaranteeRefusal, listLimit}
 use Rattle.deal.specs.Deals.{accepted, zeroCollateral, zeroGuarantee}
 use Rattle.deal.proofs.Exact.{accepted-fits, fits-accepted}
 use Rattle.deal.specs.declared.collateral.Collateral.{Collateral}
 use Rattle.deal.specs.declared.guarantee.Guarantee.{Guarantee}
 use Rattle.deal.specs.declared.deal.Deal.{Deal}
-use Rattle.betterment.specs.Betterments.{Better}
-use Rattle.betterment.specs.Views.{View, viewOf, acceptedView, recordOf}
+use Rattle.deal.specs.Views.{View, viewOf, acceptedView, recordOf}
 
 -- items that adding takes
 abbrev pub collateralFits : Collateral → Bool
@@ -94,7 +92,7 @@ view-of-record v =
     let gs = take-append-seam (v .guarantees) (drop (length (v .guarantees)) (replicate listLimit zeroGuarantee)) in
     λ i. record { terms = v .terms; collateral = cs i; guarantees = gs i }
 
--- EVERY PROPOSAL THAT REPORTING WOULD TAKE CAN BE MADE
+-- EVERY VIEW THAT REPORTING WOULD TAKE IS SOME RECORD'S
 pub can-be-made : (v : View) → acceptedView v ≡ true → (accepted (recordOf v) ≡ true) × (viewOf (recordOf v) ≡ v)
 can-be-made v e = (
   view-accepted (recordOf v)
@@ -103,12 +101,3 @@ can-be-made v e = (
       (ap acceptedView (view-of-record v) ∙ e),
   view-of-record v,
 )
-
--- so a list of betterments never comes to a stand: what is proposed is refused, or made
-pub refused-or-made : (d : Deal) (v : View) → Better (viewOf d) v →
-    (acceptedView v ≡ false) ⊎ (Better (viewOf d) (viewOf (recordOf v)) × (accepted (recordOf v) ≡ true))
-refused-or-made d v b = go (acceptedView v) refl
-  where
-    go : (t : Bool) → acceptedView v ≡ t → (acceptedView v ≡ false) ⊎ (Better (viewOf d) (viewOf (recordOf v)) × (accepted (recordOf v) ≡ true))
-    go true e = let c = can-be-made v e in inr (subst (Better (viewOf d)) (sym (c .1)) b, c .0)
-    go false e = inl e

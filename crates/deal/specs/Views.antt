@@ -1,18 +1,19 @@
 -- A deal by its fields and items. 01: Betterments, "Its items are the counted ones in order of adding; unchanged is said of its fields
--- and items, not of how a record holds them"
+-- and items, not of how a record holds them". Reports, amounts and betterments are said of views
 use mathlib.Core.Bool.{Bool, _&&_}
-use mathlib.Core.List.{List}
+use mathlib.Core.List.{List, []}
 use lib.Dec.{leb, eqb}
 use lib.ListN.{length}
 use Rattle.base.specs.All.{allPass}
 use Rattle.deal.specs.Terms.{termsRefusal}
 use Rattle.deal.specs.Items.{collateralRefusal, guaranteeRefusal, listLimit, countedCollateral, countedGuarantees}
 use Rattle.deal.specs.Deals.{dealWith}
 use Rattle.deal.specs.declared.terms.Terms.{Terms}
 use Rattle.deal.specs.declared.collateral.Collateral.{Collateral}
 use Rattle.deal.specs.declared.guarantee.Guarantee.{Guarantee}
 use Rattle.deal.specs.declared.deal.Deal.{Deal}
 
+-- collateral and guarantees each in order of adding
 pub record View : Type 0 where
   pub terms : Terms
   pub collateral : List Collateral
@@ -20,6 +21,10 @@ pub record View : Type 0 where
 
 abbrev pub viewOf : Deal → View
 viewOf d = record { terms = d .terms; collateral = countedCollateral (d .collateral); guarantees = countedGuarantees (d .guarantees) }
+
+-- "Without protection all its lists are empty"
+abbrev pub unprotected : Terms → View
+unprotected t = record { terms = t; collateral = []; guarantees = [] }
 
 -- whether reporting would take such a deal: every field one that opening or adding takes, at most sixteen items in each list. Of a
 -- record whose counts are within its places it says what `accepted` says (`accepted-view`, `view-accepted`)

@@ -1,0 +1,67 @@
+-- A report's items by the paper's numbers. Assumes nothing.
+use Prim.Native.Nat.{ℕ}
+use mathlib.Core.Path.{_≡_, refl, ap, _∙_}
+use mathlib.Core.Bool.{Bool, true, false}
+use mathlib.Core.List.{List, [], map, map-map}
+use Rattle.base.specs.Choice.{if_then_else_}
+use Rattle.base.specs.Places.{inPlaces}
+use Rattle.base.proofs.Places.{map-places}
+use Rattle.base.proofs.Placed.{map-zip}
+use Rattle.tables.specs.Table.{Table}
+use Rattle.deal.specs.Deals.{accepted}
+use Rattle.deal.specs.Editions.{tableFor}
+use Rattle.deal.specs.Items.{listLimit}
+use Rattle.deal.specs.Views.{View, viewOf}
+use Rattle.deal.specs.declared.terms.Terms.{Terms}
+use Rattle.deal.specs.declared.collateral.Collateral.{Collateral}
+use Rattle.deal.specs.declared.guarantee.Guarantee.{Guarantee}
+use Rattle.deal.specs.declared.deal.Deal.{Deal}
+use Rattle.relief.specs.declared.outcome.Outcome.{Outcome}
+use Rattle.relief.specs.declared.report.Report.{Report}
+use Rattle.relief.specs.Outcomes.{outcomeFor, outcomeGround, outcomeValue}
+use Rattle.relief.specs.Recognition.{collateralGround, collateralValue, collateralOutcome, guaranteeGround, guaranteeValue, guaranteeOutcome}
+use Rattle.relief.specs.Report.{noCollateral, noGuarantee, collateralReports, guaranteeReports, fullReport, refusedReport, reportUnder, reportOf}
+use Rattle.relief.specs.ByNumber.{Place, placeOf, placeWith, collateralPlaces, guaranteePlaces}
+use Rattle.relief.proofs.Outcomes.{value-for}
+use Rattle.relief.proofs.Recognition.{collateral-number, guarantee-number}
+use Rattle.relief.proofs.Reports.{portion-each, shares}
+
+-- an item
+module _ (table : Table) (t : Terms) where
+  collateral-place : (c : Collateral) → placeOf (collateralOutcome table t c) ≡ placeWith (collateralGround table t c) (collateralValue table t c)
+  unfolding collateralOutcome placeWith
+  collateral-place c = λ i. record { ground = collateral-number table t c i; value = value-for (collateralGround table t c) (collateralValue table t c) i }
+
+  guarantee-place : (g : Guarantee) → placeOf (guaranteeOutcome table t g) ≡ placeWith (guaranteeGround table t g) (guaranteeValue t g)
+  unfolding guaranteeOutcome placeWith
+  guarantee-place g = λ i. record { ground = guarantee-number table t g i; value = value-for (guaranteeGround table t g) (guaranteeValue t g) i }
+
+-- the counted ones
+module _ (table : Table) (v : View) where
+  collateral-counted : map (λ p. placeOf (p .outcome)) (collateralReports table v) ≡
+      map (λ c. placeWith (collateralGround table (v .terms) c) (collateralValue table (v .terms) c)) (v .collateral)
+  collateral-counted = map-map _ _ (v .collateral) ∙ (λ i. map (λ c. collateral-place table (v .terms) c i) (v .collateral))
+
+  guarantees-counted : map (λ p. placeOf (p .outcome)) (guaranteeReports table v) ≡
+      map (λ g. placeWith (guaranteeGround table (v .terms) g) (guaranteeValue (v .terms) g)) (v .guarantees)
+  guarantees-counted = map-zip _ _ _ (λ g n. guarantee-place table (v .terms) g) (v .guarantees) (shares table v) (portion-each table v)
+
+-- EVERY PLACE OF A REPORT IN THE PAPER'S NUMBERS
+module _ (d : Deal) where
+  pub collateral-by-number : map (λ p. placeOf (p .outcome)) (reportOf d .collateral) ≡ collateralPlaces d
+  unfolding reportUnder fullReport collateralPlaces placeWith outcomeGround outcomeValue if_then_else_
+  collateral-by-number = go (accepted d)
+    where
+      go : (b : Bool) → map (λ p. placeOf (p .outcome)) ((if b then fullReport (tableFor (d .terms)) (viewOf d) else refusedReport) .collateral) ≡
+          inPlaces listLimit (placeWith 0 0) (if b then map (λ c. placeWith (collateralGround (tableFor (d .terms)) (d .terms) c) (collateralValue (tableFor (d .terms)) (d .terms) c)) (viewOf d .collateral) else [])
+      go true = map-places _ listLimit noCollateral _ ∙ ap (inPlaces listLimit (placeWith 0 0)) (collateral-counted (tableFor (d .terms)) (viewOf d))
+      go false = refl
+
+  pub guarantees-by-number : map (λ p. placeOf (p .outcome)) (reportOf d .guarantees) ≡ guaranteePlaces d
+  unfolding reportUnder fullReport guaranteePlaces placeWith outcomeGround outcomeValue if_then_else_
+  guarantees-by-number = go (accepted d)
+    where
+      go : (b : Bool) → map (λ p. placeOf (p .outcome)) ((if b then fullReport (tableFor (d .terms)) (viewOf d) else refusedReport) .guarantees) ≡
+          inPlaces listLimit (placeWith 0 0) (if b then map (λ g. placeWith (guaranteeGround (tableFor (d .terms)) (d .terms) g) (guaranteeValue (d .terms) g)) (viewOf d .guarantees) else [])
+      go true = map-places _ listLimit noGuarantee _ ∙ ap (inPlaces listLimit (placeWith 0 0)) (guarantees-counted (tableFor (d .terms)) (viewOf d))
+      go false = refl
