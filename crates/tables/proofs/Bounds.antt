@@ -1,7 +1,7 @@
 -- Bounds of the figures, whatever the arguments: what the sums and products above them need to fit. Assumes nothing.
 use Prim.Native.Nat.{ℕ, _-_, _≤_, _<_}
 use mathlib.Core.Path.{refl}
-use mathlib.Core.Bool.{Bool, _&&_}
+use mathlib.Core.Bool.{Bool}
 use mathlib.Core.List.{[]}
 use native.Mathlib.Omega.{arith}
 use lib.Dec.{leb, eqb}
@@ -16,9 +16,10 @@ use Rattle.tables.specs.Haircuts.{cell, rowOf, bandOf, columnOf as issue
 use Rattle.tables.specs.Weights.{weights, columnOf, retail, tableWeight, providerWeight, counterpartyWeight}
 use Rattle.tables.proofs.Bands.{band-below}
 
-row-below : (step : ℕ) → rowOf step < 2
+row-below : (step : ℕ) → rowOf step < 3
 unfolding rowOf
-row-below step = either (λ r. r < 2) (eqb step 1) (λ e. omega arith) (λ e. omega arith)
+row-below step =
+    either (λ r. r < 3) (eqb step 1) (λ e. omega arith) (λ e. either (λ r. r < 3) (eqb step 4) (λ e. omega arith) (λ e. omega arith))
 
 column-below : (goods : ℕ) → issuerColumn goods < 3
 unfolding issuerColumn
@@ -34,7 +35,7 @@ unfolding debtHaircut
 debt-bound goods step life =
     leb-true _ _
     (every-at 3 (small (rowOf step) (bandOf life))
-    (every-at 3 (λ b. every 3 (small (rowOf step) b)) (every-at 2 (λ r. every 3 (λ b. every 3 (small r b))) refl (rowOf step) (row-below step)) (bandOf life) (band-below life))
+    (every-at 3 (λ b. every 3 (small (rowOf step) b)) (every-at 3 (λ r. every 3 (λ b. every 3 (small r b))) refl (rowOf step) (row-below step)) (bandOf life) (band-below life))
     (issuerColumn goods) (column-below goods))
 
 abbrev Low : ℕ → Type 0
@@ -46,8 +47,7 @@ haircut-bound goods step life =
     either Low (eqb goods cash) (λ e. omega arith)
     (λ e. either Low (eqb goods mainIndexEquity) (λ e. omega arith)
     (λ e. either Low (eqb goods gold) (λ e. omega arith)
-    (λ e. either Low (eqb goods otherListedEquity) (λ e. omega arith)
-    (λ e. either Low (eqb goods sovereignDebt && eqb step 4) (λ e. omega arith) (λ e. debt-bound goods step life)))))
+    (λ e. either Low (eqb goods otherListedEquity) (λ e. omega arith) (λ e. debt-bound goods step life))))
 
 pub lent-bound : (goods step life : ℕ) → lentHaircut goods step life ≤ 250000
 unfolding lentHaircut

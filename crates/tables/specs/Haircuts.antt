@@ -2,18 +2,19 @@
 -- 01: Haircuts in millionths. A year is 360 days
 use Prim.Native.Nat.{ℕ}
 use mathlib.Core.List.{List, [], _∷_}
-use mathlib.Core.Bool.{_&&_}
 use lib.Dec.{leb, eqb}
 use lib.ListN.{getD}
 use Rattle.base.specs.Choice.{if_then_else_}
 use Rattle.tables.specs.Goods.{cash, sovereignDebt, securitisation, mainIndexEquity, otherListedEquity, gold}
 use Rattle.tables.specs.Eligibility.{eligible}
 
--- the table: a row for step 1, one for steps 2 and 3; in a row, for each band of life: sovereign / other / securitisation
+-- the table: a row for step 1, one for steps 2 and 3, one for step 4; in a row, for each band of life: sovereign / other /
+-- securitisation. "Type 2 at step 4: 150000"; the other two are not eligible there, and have the figure of such goods lent
 abbrev pub debtHaircuts : List (List (List ℕ))
 debtHaircuts =
     ((5000 ∷ 10000 ∷ 20000 ∷ []) ∷ (20000 ∷ 40000 ∷ 80000 ∷ []) ∷ (40000 ∷ 80000 ∷ 160000 ∷ []) ∷ [])
     ∷ ((10000 ∷ 20000 ∷ 40000 ∷ []) ∷ (30000 ∷ 60000 ∷ 120000 ∷ []) ∷ (60000 ∷ 120000 ∷ 240000 ∷ []) ∷ [])
+    ∷ ((150000 ∷ 250000 ∷ 250000 ∷ []) ∷ (150000 ∷ 250000 ∷ 250000 ∷ []) ∷ (150000 ∷ 250000 ∷ 250000 ∷ []) ∷ [])
     ∷ []
 
 abbrev pub cell : ℕ → ℕ → ℕ → ℕ
@@ -21,7 +22,7 @@ cell row band column = getD (getD (getD debtHaircuts row []) band []) column 0
 
 -- unrated bank debt, eligible where listed senior, "uses the second row". CRE22.37(4)
 unfoldable pub rowOf : ℕ → ℕ
-rowOf step = if eqb step 1 then 0 else 1
+rowOf step = if eqb step 1 then 0 else if eqb step 4 then 2 else 1
 
 -- the security's own residual life: "up to 360", "361 to 1,800", "over 1,800" days
 unfoldable pub bandOf : ℕ → ℕ
@@ -41,7 +42,6 @@ haircut goods step life =
     if eqb goods mainIndexEquity then 150000 else
     if eqb goods gold then 150000 else
     if eqb goods otherListedEquity then 250000 else
-    if eqb goods sovereignDebt && eqb step 4 then 150000 else
     debtHaircut goods step life
 
 -- goods lent: "that would not be eligible as collateral, unrated bank debt among them: 250000" (they have no listing

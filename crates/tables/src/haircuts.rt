@@ -13,8 +13,9 @@ use crate::goods::SOVEREIGN_DEBT;
 // Where an item and the deal are in different currencies.
 pub const CURRENCY: u64 = 80_000;
 
-// Debt, by row of steps, band of residual life, and column of issuers: sovereign, other, securitisation.
-const DEBT: [[[u64; 3]; 3]; 2] = [
+// Debt, by row of steps (1; 2 and 3; 4), band of residual life, and column of issuers: sovereign, other, securitisation.
+// At step 4 sovereign debt alone is eligible.
+const DEBT: [[[u64; 3]; 3]; 3] = [
     [
         [5_000, 10_000, 20_000],
         [20_000, 40_000, 80_000],
@@ -25,9 +26,12 @@ const DEBT: [[[u64; 3]; 3]; 2] = [
         [30_000, 60_000, 120_000],
         [60_000, 120_000, 240_000],
     ],
+    [
+        [150_000, 250_000, 250_000],
+        [150_000, 250_000, 250_000],
+        [150_000, 250_000, 250_000],
+    ],
 ];
-
-const SOVEREIGN_STEP_4: u64 = 150_000;
 
 const MAIN_INDEX_OR_GOLD: u64 = 150_000;
 
@@ -36,10 +40,13 @@ const OTHER_LISTED: u64 = 250_000;
 const LENT_NOT_ELIGIBLE: u64 = 250_000;
 
 fn row(step: u64) -> usize
-    ensures { λ r. ⌜ (r ≡ rowOf step) × (r < 2) ⌝ }
+    ensures { λ r. ⌜ (r ≡ rowOf step) × (r < 3) ⌝ }
 {
     if step == 1 {
         return 0;
+    }
+    if step == 4 {
+        return 2;
     }
     1
 }
@@ -92,9 +99,6 @@ pub fn haircut(goods: u64, step: u64, life: u64) -> u64
     }
     if goods == OTHER_LISTED_EQUITY {
         return OTHER_LISTED;
-    }
-    if goods == SOVEREIGN_DEBT && step == 4 {
-        return SOVEREIGN_STEP_4;
     }
     debt_haircut(goods, step, life)
 }

@@ -1,6 +1,5 @@
 -- `tables::haircuts::haircut` meets its contract. Assumes nothing.
-use mathlib.Core.Logic.{⊎-elim}
-use Rattle.base.proofs.Tests.{tests, joined}
+use Rattle.base.proofs.Tests.{tests}
 use Rattle.tables.specs.Haircuts.{haircut}
 use Rattle.tables.proofs.haircuts.haircut.Statement.{statement}
 use Rattle.tables.proofs.haircuts.haircut.Tie as tie
@@ -21,18 +20,13 @@ returns-4 : tie.Need-returns-4
 unfolding haircut
 returns-4 c = search tests
 
-returns-5 : tie.Need-returns-5
-unfolding haircut
-returns-5 c = search (tests, joined)
-
 debt-haircut-requires : tie.Need-debt-haircut-requires
 debt-haircut-requires c κs = search tests
 
-returns-6 : tie.Need-returns-6
+returns-5 : tie.Need-returns-5
 unfolding haircut
-returns-6 c = ⊎-elim (λ w. search (tests, joined)) (λ w. search (tests, joined)) (c .before .if5 .came)
+returns-5 c = search tests
 
 pub haircut-spec : {M : Type 1} → statement M
 haircut-spec =
-    tie.close
-    (tie.spec returns returns-2 returns-3 returns-4 returns-5 debt-haircut-requires returns-6)
+    tie.close (tie.spec returns returns-2 returns-3 returns-4 debt-haircut-requires returns-5)

@@ -12,5 +12,9 @@ returns-2 : tie.Need-returns-2
 unfolding rowOf
 returns-2 c = search tests
 
+returns-3 : tie.Need-returns-3
+unfolding rowOf
+returns-3 c = search tests
+
 pub row-spec : {M : Type 1} → statement M
-row-spec = tie.close (tie.spec returns returns-2)
+row-spec = tie.close (tie.spec returns returns-2 returns-3)
