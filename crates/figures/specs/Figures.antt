@@ -1,5 +1,5 @@
--- The starred figures of document 01, "Figures at the edges": of tables and scaling as they stand, of items and amounts through the
--- report of a whole deal.
+-- The starred figures of document 01, "Figures at the edges": of scaling by its written meaning, of tables as they stand, of items and
+-- amounts through the report of a whole deal.
 use Prim.Native.Nat.{ℕ, _<_}
 use mathlib.Core.Path.{_≡_}
 use mathlib.Core.List.{List, [], _∷_}
@@ -8,7 +8,7 @@ use Rattle.tables.specs.Goods.{cash, otherDebt, otherListedEquity}
 use Rattle.tables.specs.Weights.{retail}
 use Rattle.tables.specs.Table.{table2019}
 use Rattle.scaling.specs.Period.{repoStyle, securedLending, holdingPeriod}
-use Rattle.scaling.specs.Scaling.{scaled}
+use Rattle.scaling.specs.Scaling.{IsScaled}
 use Rattle.deal.specs.Terms.{termsOf}
 use Rattle.deal.specs.Deals.{dealWith}
 use Rattle.deal.specs.declared.terms.Terms.{Terms}
@@ -19,14 +19,16 @@ use Rattle.relief.specs.Outcomes.{outcomeValue, outcomeGround}
 use Rattle.relief.specs.Exposure.{raisedExposure}
 use Rattle.relief.specs.Report.{noCollateral, noGuarantee, reportOf}
 
--- a figure: what the definitions give, and what the paper says of it
+-- a figure: what the definitions give, and what the paper says of it; of scaling: H, n, and what the paper says of h
 pub data Figure : Type 0 where
   is : ℕ → ℕ → Figure
-  above : ℕ → ℕ → Figure
+  scales : ℕ → ℕ → ℕ → Figure
+  scales-above : ℕ → ℕ → ℕ → Figure
 
 abbrev pub Right : Figure → Type 0
 Right (is given said) = given ≡ said
-Right (above given said) = said < given
+Right (scales H n said) = IsScaled H n said
+Right (scales-above H n said) = (h : ℕ) → IsScaled H n h → said < h
 
 -- the claim: every figure of a list is right
 abbrev pub AllRight : List Figure → Type 0
@@ -104,13 +106,13 @@ retailAmount amount = reportOf (dealWith (termsOf amount retail 0 home securedLe
 abbrev pub starred : List Figure
 starred =
     -- "H 80000: n 5 gives 56569, n 10 gives 80000, n 20 gives 113138"
-    is (scaled 80000 5) 56569
-    ∷ is (scaled 80000 10) 80000
-    ∷ is (scaled 80000 20) 113138
+    scales 80000 5 56569
+    ∷ scales 80000 10 80000
+    ∷ scales 80000 20 113138
     -- "H 10000, n 40: 20000 exactly"
-    ∷ is (scaled 10000 40) 20000
+    ∷ scales 10000 40 20000
     -- "Type 8, kind 3, interval 250: scaled haircut above 1,000,000, value 0"
-    ∷ above (scaled (table2019 .haircut otherListedEquity 0 0) (holdingPeriod securedLending 250)) 1000000
+    ∷ scales-above (table2019 .haircut otherListedEquity 0 0) (holdingPeriod securedLending 250) 1000000
     ∷ is (value 250 (pledge 1000000 otherListedEquity home 1800 1800)) 0
     ∷ is (ground 250 (pledge 1000000 otherListedEquity home 1800 1800)) 0
     -- "Type 3, step 3, life 360: 20000; 361: 60000"
