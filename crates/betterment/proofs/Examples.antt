@@ -16,7 +16,7 @@ use Rattle.deal.specs.declared.deal.Deal.{Deal}
 use Rattle.relief.proofs.Computed.{computed}
 use Rattle.relief.specs.Report.{reportOf}
 use Rattle.betterment.specs.Changes.{collateralAmount, collateralStep, collateralCurrency, collateralResidual, collateralOriginal, collateralLawful, collateralUnrelated, collateralUnreflected, guaranteeAmount, guaranteeStep, guaranteeCurrency, guaranteeResidual, guaranteeOriginal, guaranteeLawful, guaranteeDirect, guaranteeUnreflected, termsInterval}
-use Rattle.betterment.specs.Views.{View, viewOf, acceptedView, recordOf}
+use Rattle.deal.specs.Views.{View, viewOf, acceptedView, recordOf}
 use Rattle.betterment.specs.Betterments.{BetterCollateral, BetterGuarantee, BetterTerms, OneChanged, OneMore, Better, Betterments}
 use Rattle.betterment.proofs.Theorem.{betterments-never-raise}
 

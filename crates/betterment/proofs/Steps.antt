@@ -16,9 +16,9 @@ use Rattle.deal.specs.declared.guarantee.Guarantee.{Guarantee}
 use Rattle.relief.specs.Exposure.{weightedAmount}
 use Rattle.relief.proofs.NoWorse.{SameOrBetter, SameOrDeals, NoLowerCollateral, NoLowerGuarantee, NoWorseTerms, NoWorseCollateral, NoWorseGuarantee, NoLess, none, kept, more}
 use Rattle.relief.proofs.Amounts.{amount-no-higher}
-use Rattle.betterment.specs.Views.{View, acceptedView}
+use Rattle.deal.specs.Views.{View, acceptedView}
 use Rattle.betterment.specs.Betterments.{SmallerStep, BetterCollateral, BetterGuarantee, BetterTerms, OneChanged, OneMore, Better}
-use Rattle.betterment.proofs.Views.{FitsView, view-fits, collateralFits, guaranteeFits}
+use Rattle.deal.proofs.Views.{FitsView, view-fits, collateralFits, guaranteeFits}
 
 -- a smaller step is a better one
 smaller : {old new : ℕ} → SmallerStep old new → SameOrBetter old new
@@ -133,12 +133,8 @@ module _ (currency : ℕ) where
       one-changed guaranteeFits (NoWorseGuarantee currency) kept-guarantee (BetterGuarantee currency)
       (λ g g′ b e e′. changed-guarantee b (guarantee-plain g e) (guarantee-plain g′ e′))
 
--- the weighted amount of a view under a table
-abbrev pub amountOf : Table → View → ℕ
-amountOf table v = weightedAmount table (v .terms) (v .collateral) (v .guarantees)
-
 module _ {table : Table} (laws : TableLaws table) where
-  lowers : (v v′ : View) → Better v v′ → FitsView v → FitsView v′ → amountOf table v′ ≤ amountOf table v
+  lowers : (v v′ : View) → Better v v′ → FitsView v → FitsView v′ → weightedAmount table v′ ≤ weightedAmount table v
   lowers v v′ (Better.better-terms {t = t} {cs = cs} {gs = gs} b) f f′ =
       amount-no-higher laws (changed-terms (plain-terms t (f .terms)) b)
       (collateral-kept (t .currency) cs (f .collateral)) (guarantees-kept (t .currency) gs (f .guarantees))
@@ -156,5 +152,5 @@ module _ {table : Table} (laws : TableLaws table) where
       (collateral-kept (t .currency) cs (f .collateral)) (guarantees-longer (t .currency) b (f′ .guarantees))
 
   -- ONE BETTERMENT NEVER RAISES THE WEIGHTED AMOUNT
-  pub better-lowers : (v v′ : View) → Better v v′ → acceptedView v ≡ true → acceptedView v′ ≡ true → amountOf table v′ ≤ amountOf table v
+  pub better-lowers : (v v′ : View) → Better v v′ → acceptedView v ≡ true → acceptedView v′ ≡ true → weightedAmount table v′ ≤ weightedAmount table v
   better-lowers v v′ b e e′ = lowers v v′ b (view-fits v e) (view-fits v′ e′)

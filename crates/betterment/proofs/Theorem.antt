@@ -1,22 +1,24 @@
 -- The rule on betterments (the letter's third demand). Assumes nothing.
 use Prim.Native.Nat.{_≤_}
-use mathlib.Core.Path.{_≡_, ap}
-use mathlib.Core.Bool.{true}
+use mathlib.Core.Path.{_≡_, refl, sym, ap, subst, _∙_}
+use mathlib.Core.Bool.{Bool, true, false}
+use mathlib.Core.Logic.{_⊎_, inl, inr}
 use native.Mathlib.Omega.{arith}
 use native.Mathlib.Nat.{not-suc-le-zero}
 use Rattle.tables.specs.Table.{Table, TableLaws}
-use Rattle.tables.proofs.Laws.{lawful2019}
-use Rattle.deal.specs.Items.{countedCollateral, countedGuarantees}
 use Rattle.deal.specs.Deals.{accepted, withoutProtection}
+use Rattle.deal.specs.Editions.{tableFor}
+use Rattle.deal.proofs.Editions.{lawful}
 use Rattle.deal.proofs.Exact.{accepted-fits, fits-accepted}
+use Rattle.deal.specs.declared.terms.Terms.{Terms}
 use Rattle.deal.specs.declared.deal.Deal.{Deal}
 use Rattle.relief.specs.Exposure.{weightedAmount}
 use Rattle.relief.specs.Report.{reportUnder, reportOf}
 use Rattle.relief.proofs.Amounts.{no-higher-than-without}
 use Rattle.relief.proofs.Reports.{weighted-of}
-use Rattle.betterment.specs.Views.{viewOf}
-use Rattle.betterment.specs.Betterments.{Betterments, NeverRaised}
-use Rattle.betterment.proofs.Views.{accepted-view}
+use Rattle.deal.specs.Views.{View, viewOf, acceptedView, recordOf}
+use Rattle.betterment.specs.Betterments.{BetterTerms, Better, Betterments, NeverRaised}
+use Rattle.deal.proofs.Views.{accepted-view, can-be-made}
 use Rattle.betterment.proofs.Steps.{better-lowers}
 
 -- every deal reached from an accepted one is accepted
@@ -36,14 +38,41 @@ without-accepted d a = fits-accepted (withoutProtection (d .terms)) (record {
   guarantees = λ i h k. absurd (not-suc-le-zero h);
 })
 
+-- so a list of betterments never comes to a stand: what is proposed is refused, or made
+pub refused-or-made : (d : Deal) (v : View) → Better (viewOf d) v →
+    (acceptedView v ≡ false) ⊎ (Better (viewOf d) (viewOf (recordOf v)) × (accepted (recordOf v) ≡ true))
+refused-or-made d v b = go (acceptedView v) refl
+  where
+    go : (t : Bool) → acceptedView v ≡ t → (acceptedView v ≡ false) ⊎ (Better (viewOf d) (viewOf (recordOf v)) × (accepted (recordOf v) ≡ true))
+    go true e = let c = can-be-made v e in inr (subst (Better (viewOf d)) (sym (c .1)) b, c .0)
+    go false e = inl e
+
+-- no betterment changes the tables that a deal is reported under
+terms-table : {t t′ : Terms} → BetterTerms t t′ → tableFor t′ ≡ tableFor t
+unfolding tableFor
+terms-table (BetterTerms.smaller-lent-step new s) = refl
+terms-table (BetterTerms.smaller-interval new h) = refl
+
+better-table : {v v′ : View} → Better v v′ → tableFor (v′ .terms) ≡ tableFor (v .terms)
+better-table (Better.better-terms b) = terms-table b
+better-table (Better.better-collateral b) = refl
+better-table (Better.more-collateral b) = refl
+better-table (Better.better-guarantee b) = refl
+better-table (Better.more-guarantees b) = refl
+
+same-table : {d e : Deal} → Betterments d e → tableFor (e .terms) ≡ tableFor (d .terms)
+same-table Betterments.no-more = refl
+same-table (Betterments.held-otherwise same a l) = same-table l ∙ ap (λ v. tableFor (v .terms)) (sym same)
+same-table (Betterments.made b a l) = same-table l ∙ better-table b
+same-table (Betterments.refused proposed b r l) = same-table l
+
 -- for every table with the laws
 module _ {table : Table} (laws : TableLaws table) where
   -- than before
   no-higher-than-before : {d e : Deal} → accepted d ≡ true → Betterments d e → reportUnder table e .weighted ≤ reportUnder table d .weighted
   no-higher-than-before {d} a Betterments.no-more = omega arith
   no-higher-than-before {d} {e} a (Betterments.held-otherwise {d′ = d′} same a′ l) =
-      let equal = ap (λ v. weightedAmount table (v .terms) (v .collateral) (v .guarantees)) same in
-      omega (arith, no-higher-than-before a′ l, weighted-of table d a, weighted-of table d′ a′, equal)
+      omega (arith, no-higher-than-before a′ l, weighted-of table d a, weighted-of table d′ a′, ap (weightedAmount table) same)
   no-higher-than-before {d} {e} a (Betterments.made {d′ = d′} b a′ l) =
       let one = better-lowers laws (viewOf d) (viewOf d′) b (accepted-view d a) (accepted-view d′ a′) in
       omega (arith, no-higher-than-before a′ l, weighted-of table d a, weighted-of table d′ a′, one)
@@ -56,7 +85,7 @@ module _ {table : Table} (laws : TableLaws table) where
         arith,
         weighted-of table e a,
         weighted-of table (withoutProtection (e .terms)) (without-accepted e a),
-        no-higher-than-without table (e .terms) (countedCollateral (e .collateral)) (countedGuarantees (e .guarantees)),
+        no-higher-than-without table (viewOf e),
       )
 
   -- DEMAND 3 UNDER ANY TABLE WITH THE LAWS
@@ -67,4 +96,9 @@ module _ {table : Table} (laws : TableLaws table) where
 -- and no higher than that of the deal as it then stands, without protection
 pub betterments-never-raise : (d e : Deal) → accepted d ≡ true → Betterments d e →
     (reportOf e .weighted ≤ reportOf d .weighted) × (reportOf e .weighted ≤ reportOf (withoutProtection (e .terms)) .weighted)
-betterments-never-raise = betterments-under lawful2019
+betterments-never-raise d e a l =
+    let under = betterments-under (lawful (d .terms)) d e a l in
+    let same = sym (same-table l) in (
+      subst (λ table. reportUnder table e .weighted ≤ reportOf d .weighted) same (under .0),
+      subst (λ table. reportUnder table e .weighted ≤ reportUnder table (withoutProtection (e .terms)) .weighted) same (under .1),
+    )

@@ -11,7 +11,7 @@ use Rattle.deal.specs.declared.guarantee.Guarantee.{Guarantee}
 use Rattle.deal.specs.declared.deal.Deal.{Deal}
 use Rattle.relief.specs.Report.{reportUnder}
 use Rattle.betterment.specs.Changes.{collateralAmount, collateralStep, collateralCurrency, collateralResidual, collateralOriginal, collateralLawful, collateralUnrelated, collateralUnreflected, collateralListed, guaranteeAmount, guaranteeStep, guaranteeCurrency, guaranteeResidual, guaranteeOriginal, guaranteeLawful, guaranteeDirect, guaranteeUnreflected, termsInterval, termsLentStep}
-use Rattle.betterment.specs.Views.{View, viewOf, acceptedView}
+use Rattle.deal.specs.Views.{View, viewOf, acceptedView}
 
 -- "a smaller step, old and new both 1 to 6"
 abbrev pub SmallerStep : ℕ → ℕ → Type 0

@@ -1,10 +1,11 @@
 -- What follows for the weighted sum. Assumes nothing.
 use Prim.Native.Nat.{ℕ, suc, _*_, _-_, _≤_, _<_}
+use mathlib.Core.Path.{_≡_, ap}
 use mathlib.Core.List.{List, [], _∷_}
 use native.Mathlib.Nat.{mul-le-mul-left, mul-le-mul-right, le-trans}
 use native.Mathlib.Omega.{arith}
 use Rattle.base.specs.Sum.{sumOf}
-use Rattle.cover.specs.Cover.{lighter, covered, weightedSum}
+use Rattle.cover.specs.Cover.{lighter, covered, coveredAfter, rest, weightedSum}
 use Rattle.cover.specs.Layers.{Each, EachLighter}
 use Rattle.cover.specs.declared.protection.Protection.{Protection}
 use Rattle.cover.proofs.Portions.{each-covered, portions-le}
@@ -26,6 +27,15 @@ weighted-mono W E E′ ps ps′ h h′ e less =
 pub weighted-bound : (W E : ℕ) (ps : List Protection) → EachLighter W ps → weightedSum W E ps ≤ E * W
 weighted-bound W E ps h =
     omega (arith, weighted-layers W E ps h, below-mono W (λ l. E - sumOf (lighter (suc l)) ps) (λ l. E) (λ l k. omega arith), below-same W E)
+
+-- nothing covers: all of E bears the counterparty's weight
+all-left : (E : ℕ) → rest E [] ≡ E
+unfolding rest sumOf
+all-left E = omega arith
+
+pub none-covers : (W E : ℕ) → weightedSum W E [] ≡ E * W
+unfolding weightedSum covered coveredAfter sumOf
+none-covers W E = omega (arith, ap (λ n. n * W) (all-left E))
 
 weights-bound : (B : ℕ) (ps : List Protection) → Each (λ p. p .weight ≤ B) ps → sumOf (λ p. p .value * p .weight) ps ≤ sumOf (λ p. p .value) ps * B
 unfolding sumOf

@@ -91,8 +91,8 @@ module _ {table : Table} (laws : TableLaws table) {t t′ : Terms} (terms : NoWo
     pub amount-no-higher : {gs gs′ : List Guarantee} → NoLess (NoWorseGuarantee (t .currency)) gs gs′ →
         weightedAmount table (record { terms = t′; collateral = cs′; guarantees = gs′ }) ≤ weightedAmount table (record { terms = t; collateral = cs; guarantees = gs })
     amount-no-higher {gs} {gs′} guarantees =
-        let v = record { terms = t; collateral = cs; guarantees = gs } in
-        let v′ = record { terms = t′; collateral = cs′; guarantees = gs′ } in
+        let v : View = record { terms = t; collateral = cs; guarantees = gs } in
+        let v′ : View = record { terms = t′; collateral = cs′; guarantees = gs′ } in
         amount-mono table v v′ (counterparty-same table terms) (exposure-mono table v v′ (terms .fields .amount) raised-no-more total-no-less) (λ w.
         sum-no-less (NoWorseGuarantee (t .currency)) (λ g. lighter w (protectionOf table t g)) (λ g. lighter w (protectionOf table t′ g))
         (λ g g′ b. protection-no-less laws terms b w) gs gs′ guarantees)

@@ -6,35 +6,31 @@ use lib.ListN.{length, take, drop, replicate, length-map}
 use Rattle.base.specs.Places.{inPlaces}
 use Rattle.base.proofs.Places.{placed, taken, zip-map, length-zip}
 use Rattle.tables.specs.Table.{Table}
-use Rattle.cover.specs.Cover.{portions, coverOf}
+use Rattle.cover.specs.Cover.{coverOf}
 use Rattle.cover.specs.declared.protection.Protection.{Protection}
 use Rattle.deal.specs.Views.{View}
 use Rattle.deal.specs.declared.answer.Answer.{Answer}
 use Rattle.relief.specs.declared.collateral.CollateralReport.{CollateralReport}
 use Rattle.relief.specs.declared.guarantee.GuaranteeReport.{GuaranteeReport}
 use Rattle.relief.specs.declared.report.Report.{Report}
-use Rattle.relief.specs.Exposure.{exposureAfter, piecesOf}
 use Rattle.relief.specs.Report.{noGuarantee, guaranteeReports}
 use Rattle.relief.specs.Working.{uncovered, covering}
-use Rattle.relief.proofs.Reports.{portion-each}
+use Rattle.relief.proofs.Reports.{portion-each, shares}
 
 -- the guarantees' outcomes and their portions, place by place
 module _ (table : Table) (v : View) (n : ℕ) (long : length (v .guarantees) ≡ n) where
-  abbrev shares : List ℕ
-  shares = portions (exposureAfter table v) (piecesOf table v)
-
   values-long : length (map (uncovered table (v .terms)) (v .guarantees)) ≡ n
   values-long = length-map (v .guarantees) (uncovered table (v .terms)) ∙ long
 
-  shares-long : length shares ≡ n
+  shares-long : length (shares table v) ≡ n
   shares-long = sym (portion-each table v) ∙ long
 
   pub guarantees-assembled : (values : List GuaranteeReport) (given : List ℕ) → values ≡ inPlaces 16 noGuarantee (map (uncovered table (v .terms)) (v .guarantees)) →
-      given ≡ inPlaces 16 0 shares →
+      given ≡ inPlaces 16 0 (shares table v) →
       zipWith covering (take n values) (take n given) ++ drop n (replicate 16 noGuarantee) ≡ inPlaces 16 noGuarantee (guaranteeReports table v)
   guarantees-assembled values given e s =
-      rw (e, s, taken 16 n noGuarantee (map (uncovered table (v .terms)) (v .guarantees)) values-long, taken 16 n 0 shares shares-long, zip-map covering (uncovered table (v .terms)) (v .guarantees) shares)
-      (placed 16 n noGuarantee (guaranteeReports table v) (length-zip _ (v .guarantees) shares (portion-each table v) ∙ long))
+      rw (e, s, taken 16 n noGuarantee (map (uncovered table (v .terms)) (v .guarantees)) values-long, taken 16 n 0 (shares table v) shares-long, zip-map covering (uncovered table (v .terms)) (v .guarantees) (shares table v))
+      (placed 16 n noGuarantee (guaranteeReports table v) (length-zip _ (v .guarantees) (shares table v) (portion-each table v) ∙ long))
 
 -- reports that agree in every part
 pub same-report :

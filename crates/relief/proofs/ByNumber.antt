@@ -54,7 +54,7 @@ module _ (d : Deal) where
     where
       go : (b : Bool) → map (λ p. placeOf (p .outcome)) ((if b then fullReport (tableFor (d .terms)) (viewOf d) else refusedReport) .collateral) ≡
           inPlaces listLimit (placeWith 0 0) (if b then map (λ c. placeWith (collateralGround (tableFor (d .terms)) (d .terms) c) (collateralValue (tableFor (d .terms)) (d .terms) c)) (viewOf d .collateral) else [])
-      go true = map-places _ listLimit noCollateral _ ∙ ap (inPlaces listLimit (placeWith 0 0)) (collateral-counted (tableFor (d .terms)) (viewOf d))
+      go true = map-places (λ p. placeOf (p .outcome)) listLimit noCollateral (collateralReports (tableFor (d .terms)) (viewOf d)) ∙ ap (inPlaces listLimit (placeWith 0 0)) (collateral-counted (tableFor (d .terms)) (viewOf d))
       go false = refl
 
   pub guarantees-by-number : map (λ p. placeOf (p .outcome)) (reportOf d .guarantees) ≡ guaranteePlaces d
@@ -63,5 +63,5 @@ module _ (d : Deal) where
     where
       go : (b : Bool) → map (λ p. placeOf (p .outcome)) ((if b then fullReport (tableFor (d .terms)) (viewOf d) else refusedReport) .guarantees) ≡
           inPlaces listLimit (placeWith 0 0) (if b then map (λ g. placeWith (guaranteeGround (tableFor (d .terms)) (d .terms) g) (guaranteeValue (d .terms) g)) (viewOf d .guarantees) else [])
-      go true = map-places _ listLimit noGuarantee _ ∙ ap (inPlaces listLimit (placeWith 0 0)) (guarantees-counted (tableFor (d .terms)) (viewOf d))
+      go true = map-places (λ p. placeOf (p .outcome)) listLimit noGuarantee (guaranteeReports (tableFor (d .terms)) (viewOf d)) ∙ ap (inPlaces listLimit (placeWith 0 0)) (guarantees-counted (tableFor (d .terms)) (viewOf d))
       go false = refl

@@ -61,7 +61,7 @@ module _ (table : Table) (d : Deal) where
 -- Portions
 
 module _ (table : Table) (v : View) where
-  abbrev shares : List ℕ
+  abbrev pub shares : List ℕ
   shares = portions (exposureAfter table v) (piecesOf table v)
 
   -- a portion for each guarantee

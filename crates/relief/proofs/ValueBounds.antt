@@ -1,9 +1,9 @@
 -- Bounds, for sums and products to fit. Assumes nothing.
-use Prim.Native.Nat.{_≤_}
+use Prim.Native.Nat.{_*_, _≤_}
 use mathlib.Core.Path.{_≡_}
 use mathlib.Core.Bool.{true}
 use mathlib.Core.List.{List, map}
-use native.Mathlib.Nat.{le-trans}
+use native.Mathlib.Nat.{le-trans, mul-le-mul}
 use native.Mathlib.Omega.{arith}
 use lib.Dec.{eqb}
 use borrow.Author.Tests.{eqb-true, le-leb}
@@ -15,16 +15,20 @@ use Rattle.tables.proofs.Bounds.{lent-bound, counterparty-bound, provider-bound
 use Rattle.scaling.proofs.Scaled.{scaled-bound}
 use Rattle.scaling.proofs.Periods.{period-bound}
 use Rattle.valuation.proofs.Values.{recognised-le}
+use Rattle.cover.specs.Cover.{weightedSum}
 use Rattle.cover.specs.Limits.{small}
+use Rattle.cover.proofs.Laws.{weighted-bound}
 use Rattle.deal.specs.Editions.{tableFor}
 use Rattle.deal.specs.Items.{guaranteeRefusal}
+use Rattle.deal.specs.Views.{View}
 use Rattle.deal.proofs.Plain.{PlainTerms, PlainGuarantee, plain-guarantee}
 use Rattle.deal.specs.declared.terms.Terms.{Terms}
 use Rattle.deal.specs.declared.collateral.Collateral.{Collateral}
 use Rattle.deal.specs.declared.guarantee.Guarantee.{Guarantee}
 use Rattle.relief.specs.Outcomes.{outcomeValue}
 use Rattle.relief.specs.Recognition.{collateralValue, collateralGrounds, collateralGround, collateralOutcome, counterpartyWeightOf, guaranteeValue, guaranteeGrounds, guaranteeGround, guaranteeOutcome, providerWeightOf, protectionOf}
-use Rattle.relief.specs.Exposure.{lentCut}
+use Rattle.relief.specs.Exposure.{exposureAfter, lentCut, piecesOf}
+use Rattle.relief.proofs.Amounts.{all-lighter, exposure-bound}
 use Rattle.relief.proofs.Outcomes.{value-bound}
 use Rattle.relief.proofs.Recognition.{collateral-leaves, guarantee-leaves}
 
@@ -64,3 +68,12 @@ pieces-small t gs e =
     one g q =
         let p = plain-guarantee g (eqb-true _ 0 q) in
         and-true _ _ (le-leb _ _ (le-trans (guarantee-le (tableFor t) t g) (p .amount))) (le-leb _ _ (provider-low t g p))
+
+-- so the weighted sum of a deal fits
+pub sum-low : (v : View) → PlainTerms (v .terms) →
+    let table = tableFor (v .terms) in
+    weightedSum (counterpartyWeightOf table (v .terms)) (exposureAfter table v) (piecesOf table v) ≤ 1000000000000 * 1000
+sum-low v p =
+    let table = tableFor (v .terms) in
+    le-trans (weighted-bound _ _ (piecesOf table v) (all-lighter table v))
+    (mul-le-mul (le-trans (exposure-bound table v) (p .amount)) (counterparty-low (v .terms) p))

@@ -10,7 +10,7 @@ use Rattle.base.specs.Sum.{sumOf}
 use Rattle.base.proofs.Arrays.{unmapped}
 use Rattle.base.proofs.Places.{fill-more, placed}
 use Rattle.base.proofs.Sum.{sum-take}
-use Rattle.tables.specs.Table.{table2019}
+use Rattle.deal.specs.Editions.{tableFor}
 use Rattle.deal.specs.declared.terms.Terms.{Terms}
 use Rattle.deal.specs.declared.collateral.Collateral.{Collateral}
 use Rattle.deal.specs.Deals.{zeroCollateral}
@@ -19,19 +19,19 @@ use Rattle.relief.specs.declared.collateral.CollateralReport.{Collateral
 use Rattle.relief.specs.Outcomes.{outcomeValue}
 use Rattle.relief.specs.Recognition.{collateralOutcome}
 use Rattle.relief.specs.Exposure.{collateralTotal}
-use Rattle.relief.specs.Report.{noCollateral}
+use Rattle.relief.specs.Report.{collateralReport, noCollateral}
 use Rattle.relief.proofs.ValueBounds.{collateral-le}
 use Rattle.relief.proofs.collateral.value_collateral.Statement.{statement}
 use Rattle.relief.proofs.collateral.value_collateral.Tie as tie
 
 abbrev entry : Terms → Collateral → CollateralReport
-entry t c = record { outcome = collateralOutcome table2019 t c }
+entry t c = collateralReport (tableFor t) t c
 
 record Holds (t : Terms) (items : List Collateral) (count : ℕ) (reports : List CollateralReport) (total i : ℕ) : Type 0 where
   passed : i ≤ count
   held : count ≤ 16
   reported : reports ≡ map (entry t) (take i items) ++ drop i (replicate 16 noCollateral)
-  totalled : total ≡ collateralTotal table2019 t (take i items)
+  totalled : total ≡ collateralTotal (tableFor t) t (take i items)
   small : total ≤ i * 1000000000000
 
 abbrev Inv-loop : tie.InvT-loop
@@ -77,7 +77,7 @@ worth c =
     let l = c .before .before .before .before in
     let s = l .before .before in
     let item = collateral-at (s .args .list) (s .pre .0) (l .loop .i) zeroCollateral (c .before .before .before .loop-test .taken) (omega (arith, long s)) in
-    rw (c .value .ensures, c .before .value-item .ensures) (le-trans (collateral-le table2019 (s .args .terms) _) (item .amount))
+    rw (c .value .ensures, c .before .value-item .ensures) (le-trans (collateral-le (tableFor (s .args .terms)) (s .args .terms) _) (item .amount))
 
 add-total : tie.Need-add-total Inv-loop μ-loop
 add-total c = omega (arith, worth c, c .before .before .before .before .loop .inv .small)
@@ -101,7 +101,7 @@ loop-again c =
       passed = omega arith;
       held = l .loop .inv .held;
       reported = rw (l .loop .inv .reported, v .value-item .ensures) (fill-more (entry (s .args .terms)) zeroCollateral i items _ h (omega arith));
-      totalled = rw (c .value .ensures, v .value-item .ensures, l .loop .inv .totalled) (sym (sum-take (λ x. outcomeValue (collateralOutcome table2019 (s .args .terms) x)) items i zeroCollateral h));
+      totalled = rw (c .value .ensures, v .value-item .ensures, l .loop .inv .totalled) (sym (sum-take (λ x. outcomeValue (collateralOutcome (tableFor (s .args .terms)) (s .args .terms) x)) items i zeroCollateral h));
       small = omega (arith, worth c, l .loop .inv .small);
     }
 

@@ -1,6 +1,7 @@
 -- `relief::collateral::value_item` meets its contract. Assumes nothing.
 use native.Mathlib.Omega.{arith}
 use Rattle.tables.proofs.Bounds.{haircut-bound}
+use Rattle.deal.specs.Editions.{tableFor}
 use Rattle.relief.specs.Recognition.{cutOf}
 use Rattle.relief.proofs.collateral.value_item.Statement.{statement}
 use Rattle.relief.proofs.collateral.value_item.Tie as tie
@@ -15,7 +16,7 @@ collateral-cut-requires c κs =
     (omega (arith, c .haircut .ensures, haircut-bound (a .goods) (a .step) (a .life)), s .pre .1 .1)
 
 outcome-after-cut-requires : tie.Need-outcome-after-cut-requires
-unfolding cutOf
+unfolding cutOf tableFor
 outcome-after-cut-requires c κs =
     let h = c .before in
     let s = h .before .before in

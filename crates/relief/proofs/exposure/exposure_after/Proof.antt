@@ -3,7 +3,7 @@ use Prim.Native.Nat.{_-_}
 use mathlib.Core.Path.{_≡_}
 use native.Mathlib.Omega.{arith}
 use Rattle.base.proofs.Tests.{tests}
-use Rattle.tables.specs.Table.{table2019}
+use Rattle.deal.specs.Editions.{tableFor}
 use Rattle.deal.proofs.Plain.{plain-terms}
 use Rattle.relief.specs.Exposure.{raisedExposure}
 use Rattle.relief.proofs.ValueBounds.{lent-cut-bound}
@@ -15,7 +15,7 @@ raised-requires c κs =
     let p = plain-terms (c .args .terms) (c .pre .0) in
     (p .amount, rw (c .pre .1) (lent-cut-bound (c .args .terms) p))
 
-raised-is : (c : tie.After-raised) → c .raised .result ≡ raisedExposure table2019 (c .before .args .terms)
+raised-is : (c : tie.After-raised) → c .raised .result ≡ raisedExposure (tableFor (c .before .args .terms)) (c .before .args .terms)
 unfolding raisedExposure
 raised-is c = rw (c .raised .ensures, c .before .pre .1)
 

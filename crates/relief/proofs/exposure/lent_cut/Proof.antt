@@ -1,6 +1,7 @@
 -- `relief::exposure::lent_cut` meets its contract. Assumes nothing.
 use native.Mathlib.Omega.{arith}
 use Rattle.tables.proofs.Bounds.{lent-bound}
+use Rattle.deal.specs.Editions.{tableFor}
 use Rattle.relief.specs.Exposure.{lentCut}
 use Rattle.relief.proofs.exposure.lent_cut.Statement.{statement}
 use Rattle.relief.proofs.exposure.lent_cut.Tie as tie
@@ -15,7 +16,7 @@ scale-requires c κs =
     (omega (arith, c .lent-haircut .ensures, lent-bound (lent .goods) (lent .step) (lent .life)), s .pre .1)
 
 returns : tie.Need-returns
-unfolding lentCut
+unfolding lentCut tableFor
 returns c =
     let h = c .before in
     rw (c .scale .ensures, h .lent-haircut .ensures, h .before .before .pre .0)

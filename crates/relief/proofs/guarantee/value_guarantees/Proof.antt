@@ -7,7 +7,7 @@ use lib.ListN.{length, take, drop, replicate, length-map}
 use lib.Seq.{length-take-le}
 use Rattle.base.proofs.Arrays.{unmapped}
 use Rattle.base.proofs.Places.{fill-more, placed}
-use Rattle.tables.specs.Table.{table2019}
+use Rattle.deal.specs.Editions.{tableFor}
 use Rattle.cover.specs.declared.protection.Protection.{Protection}
 use Rattle.deal.specs.Deals.{zeroGuarantee}
 use Rattle.deal.specs.declared.terms.Terms.{Terms}
@@ -23,8 +23,8 @@ use Rattle.relief.proofs.guarantee.value_guarantees.Tie as tie
 record Holds (t : Terms) (items : List Guarantee) (count : ℕ) (reports : List GuaranteeReport) (protections : List Protection) (i : ℕ) : Type 0 where
   passed : i ≤ count
   held : count ≤ 16
-  reported : reports ≡ map (uncovered table2019 t) (take i items) ++ drop i (replicate 16 noGuarantee)
-  protected : protections ≡ map (protectionOf table2019 t) (take i items) ++ drop i (replicate 16 noProtection)
+  reported : reports ≡ map (uncovered (tableFor t) t) (take i items) ++ drop i (replicate 16 noGuarantee)
+  protected : protections ≡ map (protectionOf (tableFor t) t) (take i items) ++ drop i (replicate 16 noProtection)
 
 abbrev Inv-loop : tie.InvT-loop
 Inv-loop terms limit root items count reports₀ protections₀ i₀ reports protections i = Holds terms items count reports protections i
@@ -82,8 +82,8 @@ loop-again c =
     record {
       passed = omega arith;
       held = l .loop .inv .held;
-      reported = rw (l .loop .inv .reported, v .value-item .ensures .0) (fill-more (uncovered table2019 (s .args .terms)) zeroGuarantee i items _ h (omega arith));
-      protected = rw (l .loop .inv .protected, v .value-item .ensures .1) (fill-more (protectionOf table2019 (s .args .terms)) zeroGuarantee i items _ h (omega arith));
+      reported = rw (l .loop .inv .reported, v .value-item .ensures .0) (fill-more (uncovered (tableFor (s .args .terms)) (s .args .terms)) zeroGuarantee i items _ h (omega arith));
+      protected = rw (l .loop .inv .protected, v .value-item .ensures .1) (fill-more (protectionOf (tableFor (s .args .terms)) (s .args .terms)) zeroGuarantee i items _ h (omega arith));
     }
 
 returns : tie.Need-returns Inv-loop μ-loop
@@ -94,8 +94,8 @@ returns c =
     let count = s .args .list .count in
     let e : l .i ≡ count = omega arith in
     let n : length counted ≡ count = length-take-le count (s .args .list .items) (omega (arith, long s, l .inv .held)) in
-    let f = uncovered table2019 (s .args .terms) in
-    let g = protectionOf table2019 (s .args .terms) in
+    let f = uncovered (tableFor (s .args .terms)) (s .args .terms) in
+    let g = protectionOf (tableFor (s .args .terms)) (s .args .terms) in
     (rw (l .inv .reported, e) (placed 16 count noGuarantee (map f counted) (length-map counted f ∙ n)), rw (l .inv .protected, e) (placed 16 count noProtection (map g counted) (length-map counted g ∙ n)))
 
 pub value-guarantees-spec : {M : Type 1} → statement M

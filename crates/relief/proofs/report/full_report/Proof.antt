@@ -1,7 +1,7 @@
 -- `relief::report::full_report` meets its contract. Assumes nothing.
-use Prim.Native.Nat.{_-_, min}
-use mathlib.Core.Path.{_≡_, refl, ap, _∙_}
-use mathlib.Core.List.{List}
+use Prim.Native.Nat.{_-_, _≤_, min}
+use mathlib.Core.Path.{_≡_, refl, sym, ap, subst, _∙_}
+use mathlib.Core.Bool.{true}
 use native.Mathlib.Omega.{arith}
 use lib.Dec.{leb}
 use lib.ListN.{length, take, length-map}
@@ -9,114 +9,146 @@ use lib.Seq.{length-take-le}
 use Rattle.base.proofs.Arrays.{unmapped}
 use Rattle.base.proofs.Every.{both}
 use Rattle.base.proofs.Places.{taken}
-use Rattle.tables.specs.Table.{table2019}
-use Rattle.scaling.proofs.Below.{root-none}
+use Rattle.tables.specs.Table.{Table}
 use Rattle.valuation.specs.Exposure.{weighted}
 use Rattle.cover.specs.Cover.{coverOf}
-use Rattle.cover.specs.declared.protection.Protection.{Protection}
-use Rattle.deal.specs.Items.{guaranteeListAllowed, countedCollateral, countedGuarantees}
+use Rattle.deal.specs.Deals.{dealOf}
+use Rattle.deal.specs.Editions.{tableFor}
+use Rattle.deal.specs.Items.{collateralListAllowed, guaranteeListAllowed}
+use Rattle.deal.specs.Terms.{termsRefusal}
+use Rattle.deal.specs.Views.{View, viewOf}
 use Rattle.deal.specs.declared.answer.Answer.the-variants.{Accepted}
-use Rattle.deal.proofs.Plain.{plain-terms, guarantee-count}
+use Rattle.deal.proofs.Deals.{accepted-allowed, allowed-parts}
+use Rattle.deal.proofs.Plain.{PlainTerms, plain-terms, guarantee-count}
 use Rattle.relief.specs.Recognition.{counterpartyWeightOf, protectionOf}
-use Rattle.relief.specs.Exposure.{raisedExposure, exposureAfter, protections, weightedAmount}
+use Rattle.relief.specs.Exposure.{raisedExposure, exposureAfter, piecesOf, weightedAmount}
 use Rattle.relief.specs.Report.{fullReport}
-use Rattle.relief.specs.Working.{exposureLess, noProtection}
+use Rattle.relief.specs.Working.{noProtection}
+use Rattle.relief.proofs.Amounts.{exposure-bound}
 use Rattle.relief.proofs.Assembly.{guarantees-assembled, same-report, same-cover}
+use Rattle.relief.proofs.ValueBounds.{counterparty-low, pieces-small, sum-low}
 use Rattle.relief.proofs.report.full_report.Statement.{statement}
 use Rattle.relief.proofs.report.full_report.Tie as tie
 
-for-terms-requires : tie.Need-for-terms-requires
-for-terms-requires c κs = (c .before .pre .0, (root-none, root-none))
+-- the deal's view, and its tables
+module _ (c : tie.Start) where
+  abbrev view : View
+  view = viewOf (dealOf (c .args .terms) (c .args .collateral) (c .args .guarantees))
+
+  abbrev table : Table
+  table = tableFor (c .args .terms)
+
+  parts : (termsRefusal (c .args .terms) ≡ 0) × ((collateralListAllowed (c .args .collateral) ≡ true) × (guaranteeListAllowed (c .args .guarantees) ≡ true))
+  parts = let d = dealOf (c .args .terms) (c .args .collateral) (c .args .guarantees) in allowed-parts d (accepted-allowed d (c .pre .0))
+
+  plain : PlainTerms (c .args .terms)
+  plain = plain-terms (c .args .terms) (parts .0)
+
+  count : c .args .guarantees .count ≤ 16
+  count = guarantee-count (c .args .guarantees) (parts .1 .1)
+
+  long : length (c .args .guarantees .items) ≡ 16
+  long = search (unmapped, c .good)
+
+  counted : length (view .guarantees) ≡ c .args .guarantees .count
+  counted = length-take-le (c .args .guarantees .count) (c .args .guarantees .items) (omega (arith, long, count))
+
+weight-of-requires : tie.Need-weight-of-requires
+weight-of-requires c κs = parts c .0
 
 value-collateral-requires : tie.Need-value-collateral-requires
-value-collateral-requires c κs = (c .before .before .pre .1 .0, (c .for-terms .ensures .deal-period, c .for-terms .ensures .deal-rooted))
-
-counterparty-weight-requires : tie.Need-counterparty-weight-requires
-counterparty-weight-requires c κs = let p = plain-terms _ (c .before .before .before .pre .0) in (p .class .0, (p .class .1, p .step))
+value-collateral-requires c κs = let s = c .before in (parts s .1 .0, (s .pre .1 .deal-period, s .pre .1 .deal-rooted))
 
 value-guarantees-requires : tie.Need-value-guarantees-requires
 value-guarantees-requires c κs =
-    let r = c .before .before .for-terms .ensures in
-    ((c .before .before .before .before .pre .1 .1, c .counterparty-weight .ensures), (r .guarantee-period, r .guarantee-rooted))
+    let s = c .before .before in
+    ((parts s .1 .1, c .before .weight-of .ensures), (s .pre .1 .guarantee-period, s .pre .1 .guarantee-rooted))
 
--- the counted guarantees
-long : (c : tie.Start) → length (c .args .guarantees .items) ≡ 16
-long c = search (unmapped, c .good)
+lent-cut-requires : tie.Need-lent-cut-requires
+lent-cut-requires c κs = let r = c .before .before .before .pre .1 in (r .deal-period, r .deal-rooted)
 
-counted : (c : tie.Start) → length (countedGuarantees (c .args .guarantees)) ≡ c .args .guarantees .count
-counted c =
-    let g = c .args .guarantees in
-    length-take-le (g .count) (g .items) (omega (arith, long c, guarantee-count g (c .pre .1 .1)))
+exposure-after-requires : tie.Need-exposure-after-requires
+exposure-after-requires c κs = (parts (c .before .before .before .before) .0, c .lent-cut .ensures)
 
-abbrev pieces : tie.Start → List Protection
-pieces c = protections table2019 (c .args .terms) (countedGuarantees (c .args .guarantees))
+-- exposure, weight and pieces are the definition's
+module _ (c : tie.After-exposure-after) where
+  abbrev valued : tie.After-value-guarantees
+  valued = c .before .before
 
-pieces-are : (c : tie.After-value-guarantees) →
-    let s = c .before .before .before .before .before in
-    take (s .args .guarantees .count) (c .value-guarantees .result .protections) ≡ pieces s
-pieces-are c =
-    let s = c .before .before .before .before .before in
-    let gs = countedGuarantees (s .args .guarantees) in
-    ap (λ x. take (s .args .guarantees .count) x) (c .value-guarantees .ensures .1)
-    ∙ taken 16 (s .args .guarantees .count) noProtection (pieces s) (length-map gs (protectionOf table2019 (s .args .terms)) ∙ counted s)
+  abbrev start : tie.Start
+  start = valued .before .before .before
 
-amounts-of-requires : tie.Need-amounts-of-requires
+  exposure-is : c .exposure-after .result ≡ exposureAfter (table start) (view start)
+  unfolding exposureAfter
+  exposure-is =
+      let t = start .args .terms in
+      c .exposure-after .ensures ∙ ap (λ x. min (t .amount) (raisedExposure (table start) t - x)) (valued .before .value-collateral .ensures .1)
+
+  weight-is : valued .before .before .weight-of .result ≡ counterpartyWeightOf (table start) (start .args .terms)
+  weight-is = valued .before .before .weight-of .ensures
+
+  pieces-are : take (start .args .guarantees .count) (valued .value-guarantees .result .protections) ≡ piecesOf (table start) (view start)
+  pieces-are =
+      ap (λ x. take (start .args .guarantees .count) x) (valued .value-guarantees .ensures .1)
+      ∙ taken 16 (start .args .guarantees .count) noProtection (piecesOf (table start) (view start))
+      (length-map (view start .guarantees) (protectionOf (table start) (start .args .terms)) ∙ counted start)
+
+cover-requires : tie.Need-cover-requires
 unfolding guaranteeListAllowed
-amounts-of-requires c κs =
-    let v = c .before in
-    let r = v .before .before .before .for-terms .ensures in
-    let s = v .before .before .before .before .before in
+cover-requires c κs =
+    let e = c .before in
+    let s = start e in
+    let p = plain s in
     let g = s .args .guarantees in (
-      (s .pre .0, (r .deal-period, r .deal-rooted)),
+      count s,
       (
-        guarantee-count g (s .pre .1 .1),
-        record { guarantees = countedGuarantees g; allowed = both (leb (g .count) 16) _ (s .pre .1 .1) .1; are = pieces-are v },
+        omega (arith, exposure-is e, exposure-bound (table s) (view s), p .amount),
+        (
+          omega (arith, weight-is e, counterparty-low (s .args .terms) p),
+          rw (pieces-are e) (pieces-small (s .args .terms) (view s .guarantees) (both (leb (g .count) 16) _ (parts s .1 .1) .1)),
+        ),
       ),
     )
 
+-- and so is the cover
+cover-is : (c : tie.After-cover) →
+    let s = start (c .before .before) in
+    c .cover .result ≡ coverOf (counterpartyWeightOf (table s) (s .args .terms)) (exposureAfter (table s) (view s)) (piecesOf (table s) (view s))
+cover-is c = let e = c .before .before in c .cover .ensures ∙ same-cover (weight-is e) (exposure-is e) (pieces-are e)
+
 with-portions-requires : tie.Need-with-portions-requires
-with-portions-requires c κs =
-    let s = c .before .before .before .before .before .before .before .before .before .before in
-    guarantee-count (s .args .guarantees) (s .pre .1 .1)
+with-portions-requires c κs = count (start (c .before .before .before .before))
 
--- exposure and cover are the definition's
-module _ (c : tie.After-amounts-of) where
-  abbrev start : tie.Start
-  start = c .before .before .before .before .before .before .before
-
-  exposure-is : exposureLess (start .args .terms) (c .before .before .before .before .value-collateral .result .total) ≡ exposureAfter table2019 (start .args .terms) (countedCollateral (start .args .collateral))
-  unfolding exposureLess exposureAfter
-  exposure-is =
-      let t = start .args .terms in
-      ap (λ x. min (t .amount) (raisedExposure table2019 t - x)) (c .before .before .before .before .value-collateral .ensures .1)
-
-  cover-is : c .amounts-of .result .cover ≡ coverOf (counterpartyWeightOf table2019 (start .args .terms)) (exposureAfter table2019 (start .args .terms) (countedCollateral (start .args .collateral))) (pieces start)
-  cover-is = c .amounts-of .ensures .1 .0 ∙ same-cover refl exposure-is (pieces-are (c .before .before))
+weighted-requires : tie.Need-weighted-requires
+weighted-requires c κs =
+    let v = c .before .before .before .before in
+    let s = start (v .before .before) in
+    omega (arith, ap (λ x. x .«weighted_sum») (cover-is v), sum-low (view s) (plain s))
 
 returns : tie.Need-returns
 unfolding fullReport weightedAmount
 returns c =
-    let wp = c .before in
-    let a = wp .before .before .before .before in
-    let v = a .before .before in
-    let s = start a in
-    let gs = countedGuarantees (s .args .guarantees) in
-    let E = exposureAfter table2019 (s .args .terms) (countedCollateral (s .args .collateral)) in
+    let p = c .before .before in
+    let v = p .before .before .before in
+    let e = v .before .before in
+    let s = start e in
     same-report Accepted
-    (a .amounts-of .ensures .0 ∙ exposure-is a)
-    (v .before .before .value-collateral .ensures .0)
-    (wp .with-portions .ensures ∙ guarantees-assembled table2019 (s .args .terms) E gs (s .args .guarantees .count) (counted s) _ _ (v .value-guarantees .ensures .0) (ap (λ x. x .portions) (cover-is a)))
-    (ap (λ x. x .rest) (cover-is a))
-    (a .amounts-of .ensures .1 .1 ∙ ap (λ x. weighted (x .«weighted_sum»)) (cover-is a))
+    (exposure-is e)
+    (valued e .before .value-collateral .ensures .0)
+    (p .with-portions .ensures ∙ guarantees-assembled (table s) (view s) (s .args .guarantees .count) (counted s) _ _ (valued e .value-guarantees .ensures .0) (ap (λ x. x .portions) (cover-is v)))
+    (ap (λ x. x .rest) (cover-is v))
+    (c .weighted .ensures ∙ ap (λ x. weighted (x .«weighted_sum»)) (cover-is v))
 
 pub full-report-spec : {M : Type 1} → statement M
 full-report-spec =
     tie.close
     (tie.spec
-    for-terms-requires
+    weight-of-requires
     value-collateral-requires
-    counterparty-weight-requires
     value-guarantees-requires
-    amounts-of-requires
+    lent-cut-requires
+    exposure-after-requires
+    cover-requires
     with-portions-requires
+    weighted-requires
     returns)
