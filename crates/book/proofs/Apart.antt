@@ -1,6 +1,6 @@
 -- A deal's answer depends on its own lines, its serial and its line number, and on nothing else in the book. Assumes nothing.
 use Prim.Native.Nat.{ℕ, suc, _+_, _*_}
-use mathlib.Core.Path.{_≡_, sym, _∙_, ap}
+use mathlib.Core.Path.{_≡_, refl, sym, _∙_, ap}
 use mathlib.Core.Bool.{true}
 use mathlib.Core.List.{List, [], _∷_, _++_, append-assoc, append-nil}
 use mathlib.Core.Logic.{_⊎_, inl, ⊎-elim}
@@ -8,13 +8,15 @@ use native.Mathlib.Omega.{arith}
 use lib.ListN.{length, take, drop}
 use lib.Seq.{take-at, drop-at}
 use Rattle.base.specs.All.{allPass}
-use Rattle.text.specs.Text.{linesOf, ended}
+use Rattle.base.specs.Choice.{if_then_else_}
+use Rattle.text.specs.Text.{firstLine, linesOf, ended}
 use Rattle.text.proofs.Lines.{lines-append, no-lines}
 use Rattle.deal.specs.declared.deal.Deal.{Deal}
 use Rattle.book.specs.Deals.{DealLines, opensDeal, dealsFrom}
 use Rattle.book.specs.Answers.{dealAnswer, answersFrom}
+use Rattle.book.specs.Heading.{header}
 use Rattle.book.specs.Parts.{dealsIn, linesIn, StartsDeal, answersTo, Parted}
-use Rattle.book.specs.Book.{header, bookRefusal, resultsAfter}
+use Rattle.book.specs.Book.{textBehind, bookRefusal, resultsAfter}
 use Rattle.book.proofs.Answering.{no-answers, answers-more, answers-long}
 use Rattle.book.proofs.Grouping.{deals-append, deals-counted}
 use Rattle.book.proofs.Refusing.{accepted-results}
@@ -61,19 +63,22 @@ part-behind n k first second rest e h =
     ∙ ap (take k) (drop-at first (second ++ rest) n e)
     ∙ take-at second rest k h
 
-module _ (before own after list : List ℕ) (b : ended before ≡ true) (f : Parted own after) (s : StartsDeal own) (t : StartsDeal after) where
-  abbrev book : List ℕ
-  book = header ++ (before ++ (own ++ after))
+-- any text may stand behind a heading
+pub behind-heading : (text : List ℕ) → textBehind (header ++ text) ≡ text
+unfolding firstLine if_then_else_
+behind-heading text = refl
 
+module _ (book before own after list : List ℕ) (e : textBehind book ≡ before ++ (own ++ after)) (b : ended before ≡ true) (f : Parted own after) (s : StartsDeal own) (t : StartsDeal after) where
   abbrev ownAnswers : List ℕ
   ownAnswers = answersTo (1 + dealsIn before) (2 + linesIn before) own
 
   abbrev later : List ℕ
   later = answersTo (1 + dealsIn before + dealsIn own) (2 + linesIn before + linesIn own) after
 
-  all-answers : answersTo 1 2 (before ++ (own ++ after)) ≡ (answersTo 1 2 before ++ ownAnswers) ++ later
+  all-answers : answersTo 1 2 (textBehind book) ≡ (answersTo 1 2 before ++ ownAnswers) ++ later
   all-answers =
-      answers-follow 1 2 before (own ++ after) (inl b) (starts-follow own after f s t)
+      ap (answersTo 1 2) e
+      ∙ answers-follow 1 2 before (own ++ after) (inl b) (starts-follow own after f s t)
       ∙ ap (λ xs. answersTo 1 2 before ++ xs) (answers-follow (1 + dealsIn before) (2 + linesIn before) own after f t)
       ∙ sym (append-assoc (answersTo 1 2 before) ownAnswers later)
 
@@ -81,7 +86,7 @@ module _ (before own after list : List ℕ) (b : ended before ≡ true) (f : Par
   -- the deals of a part of a book are made from that part, the serial of its first deal and the number of its first line
   pub answers-apart : bookRefusal book (length list) ≡ 0 → take (4 * dealsIn own) (drop (4 * dealsIn before) (resultsAfter book list)) ≡ ownAnswers
   answers-apart h =
-      let rest = drop (length (answersTo 1 2 (before ++ (own ++ after)))) list in
+      let rest = drop (length (answersTo 1 2 (textBehind book))) list in
       ap (λ xs. take (4 * dealsIn own) (drop (4 * dealsIn before) xs)) (
       accepted-results book list h
       ∙ ap (λ xs. xs ++ rest) all-answers
@@ -90,31 +95,31 @@ module _ (before own after list : List ℕ) (b : ended before ≡ true) (f : Par
       ∙ part-behind (4 * dealsIn before) (4 * dealsIn own) (answersTo 1 2 before) ownAnswers (later ++ rest) (to-long 1 2 before) (to-long (1 + dealsIn before) (2 + linesIn before) own)
 
 -- so the other lines may be replaced by any others with as many lines and deals before this part
-pub answers-unmoved : (before before′ own after after′ list list′ : List ℕ)
+pub answers-unmoved : (book book′ before before′ own after after′ list list′ : List ℕ)
+    → textBehind book ≡ before ++ (own ++ after) → textBehind book′ ≡ before′ ++ (own ++ after′)
     → ended before ≡ true → ended before′ ≡ true → Parted own after → Parted own after′ → StartsDeal own → StartsDeal after → StartsDeal after′
     → linesIn before ≡ linesIn before′ → dealsIn before ≡ dealsIn before′
-    → bookRefusal (header ++ (before ++ (own ++ after))) (length list) ≡ 0
-    → bookRefusal (header ++ (before′ ++ (own ++ after′))) (length list′) ≡ 0
-    → take (4 * dealsIn own) (drop (4 * dealsIn before) (resultsAfter (header ++ (before ++ (own ++ after))) list))
-    ≡ take (4 * dealsIn own) (drop (4 * dealsIn before′) (resultsAfter (header ++ (before′ ++ (own ++ after′))) list′))
-answers-unmoved before before′ own after after′ list list′ b b′ f f′ s t t′ lines deals h h′ =
-    answers-apart before own after list b f s t h
+    → bookRefusal book (length list) ≡ 0 → bookRefusal book′ (length list′) ≡ 0
+    → take (4 * dealsIn own) (drop (4 * dealsIn before) (resultsAfter book list)) ≡ take (4 * dealsIn own) (drop (4 * dealsIn before′) (resultsAfter book′ list′))
+answers-unmoved book book′ before before′ own after after′ list list′ e e′ b b′ f f′ s t t′ lines deals h h′ =
+    answers-apart book before own after list e b f s t h
     ∙ ap (λ k. answersTo (1 + k) (2 + linesIn before) own) deals
     ∙ ap (λ n. answersTo (1 + dealsIn before′) (2 + n) own) lines
-    ∙ sym (answers-apart before′ own after′ list′ b′ f′ s t′ h′)
+    ∙ sym (answers-apart book′ before′ own after′ list′ e′ b′ f′ s t′ h′)
 
 -- and a book with one more deal at its end, or several, keeps the earlier answers
-pub earlier-kept : (text more list : List ℕ) → ended text ≡ true → StartsDeal more
-    → bookRefusal (header ++ text) (length list) ≡ 0 → bookRefusal (header ++ (text ++ more)) (length list) ≡ 0
-    → take (4 * dealsIn text) (resultsAfter (header ++ (text ++ more)) list) ≡ take (4 * dealsIn text) (resultsAfter (header ++ text) list)
-earlier-kept text more list e s h h′ =
+pub earlier-kept : (book longer more list : List ℕ) → textBehind longer ≡ textBehind book ++ more → ended (textBehind book) ≡ true → StartsDeal more
+    → bookRefusal book (length list) ≡ 0 → bookRefusal longer (length list) ≡ 0
+    → take (4 * dealsIn (textBehind book)) (resultsAfter longer list) ≡ take (4 * dealsIn (textBehind book)) (resultsAfter book list)
+earlier-kept book longer more list e f s h h′ =
+    let text = textBehind book in
     let long = to-long 1 2 text in
     let new = answersTo (1 + dealsIn text) (2 + linesIn text) more in
-    let rest = drop (length (answersTo 1 2 (text ++ more))) list in
+    let rest = drop (length (answersTo 1 2 (textBehind longer))) list in
     ap (take (4 * dealsIn text)) (
-    accepted-results (header ++ (text ++ more)) list h′
-    ∙ ap (λ xs. xs ++ rest) (answers-follow 1 2 text more (inl e) s)
+    accepted-results longer list h′
+    ∙ ap (λ xs. xs ++ rest) (ap (answersTo 1 2) e ∙ answers-follow 1 2 text more (inl f) s)
     ∙ append-assoc (answersTo 1 2 text) new rest
     )
     ∙ take-at (answersTo 1 2 text) (new ++ rest) (4 * dealsIn text) long
-    ∙ sym (ap (take (4 * dealsIn text)) (accepted-results (header ++ text) list h) ∙ take-at (answersTo 1 2 text) _ (4 * dealsIn text) long)
+    ∙ sym (ap (take (4 * dealsIn text)) (accepted-results book list h) ∙ take-at (answersTo 1 2 text) _ (4 * dealsIn text) long)

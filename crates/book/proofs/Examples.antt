@@ -9,7 +9,7 @@ use Rattle.base.specs.FirstMet.{firstOr}
 use Rattle.base.specs.Range.{within}
 use Rattle.text.specs.Bytes.{byte, bytes}
 use Rattle.text.specs.Decimal.{decimalFrom}
-use Rattle.text.specs.Text.{tab, startsWith, extendFirst, linesOf}
+use Rattle.text.specs.Text.{tab, startsWith, sameBytes, extendFirst, linesOf, firstLine}
 use Rattle.text.proofs.Bytes.{only}
 use Rattle.deal.specs.Fields.{collateralIn, guaranteeIn, termsIn}
 use Rattle.deal.specs.Deals.{openedDeal, addCollateralTests, addCollateralRefusal, withCollateral, addGuaranteeTests, addGuaranteeRefusal, withGuarantee}
@@ -19,12 +19,14 @@ use Rattle.lines.specs.Fields.{fieldOf, isEnd, andThen, withNumber, fieldsOf}
 use Rattle.lines.specs.Lines.{dealLine, collateralLine, guaranteeLine, ifRead, lineOf}
 use Rattle.book.specs.Deals.{opensDeal, ownLines, dealsFrom}
 use Rattle.book.specs.Answers.{openingRefusal, openedBy, lineRefusal, withLine, refusedAt, reported, linesAnswer, dealAnswer, answersFrom}
+use Rattle.book.specs.Heading.{headingOf}
 use Rattle.book.specs.Book.{bookTests, bookRefusal, answeredDeals, bookReply, resultsAfter}
+use Rattle.book.specs.declared.heading.Heading.the-variants.{Edition, Wrong}
 use Rattle.book.specs.declared.reply.Reply.{Reply}
 
 -- `unfolding worked` opens every definition that an answer comes from
 unfoldable pub worked : List ℕ → List ℕ → List ℕ
-unfolding computed openedDeal addCollateralTests addCollateralRefusal withCollateral addGuaranteeTests addGuaranteeRefusal withGuarantee firstOr within if_then_else_ startsWith extendFirst linesOf decimalFrom digitsOf numberAllowed numberRead numberOf fieldOf isEnd andThen withNumber fieldsOf dealLine collateralLine guaranteeLine termsIn collateralIn guaranteeIn ifRead lineOf ownLines dealsFrom openingRefusal openedBy lineRefusal withLine refusedAt reported linesAnswer dealAnswer answersFrom bookTests bookRefusal answeredDeals bookReply resultsAfter
+unfolding computed openedDeal addCollateralTests addCollateralRefusal withCollateral addGuaranteeTests addGuaranteeRefusal withGuarantee firstOr within if_then_else_ startsWith sameBytes extendFirst linesOf firstLine decimalFrom digitsOf numberAllowed numberRead numberOf fieldOf isEnd andThen withNumber fieldsOf dealLine collateralLine guaranteeLine termsIn collateralIn guaranteeIn ifRead lineOf ownLines dealsFrom openingRefusal openedBy lineRefusal withLine refusedAt reported linesAnswer dealAnswer answersFrom headingOf bookTests bookRefusal answeredDeals bookReply resultsAfter
 worked book before = resultsAfter book before
 
 abbrev pub example : List ℕ
@@ -37,6 +39,13 @@ example =
 example-answered : resultsAfter example (replicate 13 7) ≡ 1 ∷ 0 ∷ 611314 ∷ 411314 ∷ 2 ∷ 3 ∷ 5 ∷ 0 ∷ 3 ∷ 0 ∷ 900 ∷ 675 ∷ 7 ∷ []
 unfolding worked
 example-answered = refl
+
+-- first lines: the right one; without a line feed, with a carriage return, none, with another number
+headings-read :
+    map headingOf (bytes "CRM\t1\n" ∷ bytes "CRM\t1" ∷ bytes "CRM\t1\r\n" ∷ bytes "" ∷ bytes "CRM\t2\n" ∷ [])
+    ≡ Edition 1 ∷ Wrong ∷ Wrong ∷ Wrong ∷ Wrong ∷ []
+unfolding worked
+headings-read = refl
 
 abbrev refusedBy : ℕ → Reply
 refusedBy refusal = record { refusal = refusal; deals = 0 }

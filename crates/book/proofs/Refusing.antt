@@ -8,19 +8,27 @@ use borrow.Author.Tests.{eqb-true, ltb-false}
 use lib.Dec.{eqb}
 use lib.ListN.{length, take}
 use Rattle.base.specs.All.{allPass}
-use Rattle.base.proofs.Choice.{if-true, if-false}
+use Rattle.base.proofs.Choice.{if-true, if-false, either, never}
 use Rattle.base.proofs.FirstMet.{NoneMet, Exact, exact, none-exactly}
-use Rattle.text.specs.Text.{firstLine, linesOf}
+use Rattle.text.specs.Text.{sameBytes, firstLine, linesOf}
+use Rattle.text.proofs.Equal.{same-equal}
 use Rattle.text.proofs.Lines.{lines-first, no-lines}
 use Rattle.book.specs.Deals.{opensDeal}
 use Rattle.book.specs.Answers.{answersFrom}
+use Rattle.book.specs.Heading.{header, headingOf, isWrong}
 use Rattle.book.specs.Working.{ownFirst}
 use Rattle.book.specs.Book.{bookTests, bookRefusal, dealsOf, answeredDeals, refusedReply, bookReply, overwrite, resultsAfter}
 use Rattle.book.specs.declared.reply.Reply.{Reply}
 use Rattle.book.proofs.Grouping.{opens-first}
 use Rattle.book.proofs.Answering.{no-answers}
 
--- the first line behind the header opens no deal
+-- a first line that is not wrong is the one asked for, byte for byte
+pub heading-right : (line : List ℕ) → isWrong (headingOf line) ≡ false → line ≡ header
+unfolding headingOf
+heading-right line =
+    either (λ h. isWrong h ≡ false → line ≡ header) (sameBytes line header) (λ e h. same-equal line header e) (λ e h. absurd (never refl h))
+
+-- the first line behind the heading opens no deal
 pub second-wrong : (text : List ℕ) → not (allPass (take 1 (linesOf text)) opensDeal) ≡ ownFirst text
 unfolding ownFirst
 second-wrong [] = ap (λ ls. not (allPass (take 1 ls) opensDeal)) no-lines

@@ -7,23 +7,22 @@ use lib.ListN.{drop, length, take}
 use Rattle.base.specs.All.{allPass}
 use Rattle.base.specs.Choice.{if_then_else_}
 use Rattle.base.specs.FirstMet.{Test, _when_, firstMet}
-use Rattle.text.specs.Bytes.{bytes}
-use Rattle.text.specs.Text.{startsWith, linesOf}
+use Rattle.text.specs.Text.{firstLine, linesOf}
 use Rattle.book.specs.Deals.{DealLines, opensDeal, dealsFrom}
 use Rattle.book.specs.Answers.{answersFrom}
+use Rattle.book.specs.Heading.{headingOf, isWrong}
 use Rattle.book.specs.declared.reply.Reply.{Reply}
-
--- "The first line is the five bytes C, R, M, tab, 1 and its line feed"
-abbrev pub header : List ℕ
-header = bytes "CRM\t1\n"
 
 -- in bytes
 abbrev pub bookLimit : ℕ
 bookLimit = 65536
 
--- the lines behind the header, where there is one
+-- what stands behind the first line, and its lines
+abbrev pub textBehind : List ℕ → List ℕ
+textBehind book = drop (length (firstLine book)) book
+
 abbrev pub linesBehind : List ℕ → List (List ℕ)
-linesBehind book = linesOf (drop (length header) book)
+linesBehind book = linesOf (textBehind book)
 
 -- "(the header is line 1)", so the line behind it is line 2
 abbrev pub dealsOf : List ℕ → List DealLines
@@ -34,7 +33,7 @@ dealsOf book = dealsFrom 2 (linesBehind book)
 unfoldable pub bookTests : List ℕ → ℕ → List (Test ℕ)
 bookTests book places =
     10 when ltb bookLimit (length book)
-    ∷ 9 when not (startsWith header book)
+    ∷ 9 when isWrong (headingOf (firstLine book))
     ∷ 12 when not (allPass (take 1 (linesBehind book)) opensDeal)
     ∷ 13 when ltb places (4 * length (dealsOf book))
     ∷ []

@@ -1,5 +1,6 @@
 pub mod Answers
 pub mod Book
 pub mod Deals
+pub mod Heading
 pub mod Parts
 pub mod Working

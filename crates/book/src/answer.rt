@@ -9,11 +9,11 @@ ghost use Rattle.book.specs.Book.{bookReply, overwrite, resultsAfter};
 ghost use Rattle.book.specs.Deals.{dealsFrom};
 ghost use Rattle.book.specs.Working.{ownFirst};
 use crate::reading::answer_deal;
-use crate::reply::HEADER_BYTES;
 use crate::reply::Reply;
 use crate::reply::reply_to;
 use crate::results::put_answer;
 use relief::roots::Roots;
+use text::line_end;
 
 // The answers to the deals among a book's lines, from the front of the list.
 fn answer_deals(lines: &[u8], results: &mut [u64])
@@ -50,7 +50,7 @@ pub fn answer_book(book: &[u8], results: &mut [u64]) -> Reply
     if reply.refusal != 0 {
         return reply;
     }
-    let at: usize = HEADER_BYTES;
+    let at = line_end(book, 0);
     answer_deals(&book[at..], results);
     reply
 }

@@ -2,14 +2,13 @@
 ghost use mathlib.Core.Path.{_≡_};
 ghost use Rattle.book.specs.Book.{bookReply, refusedReply};
 use crate::deals::count_deals;
+use crate::heading::read_heading;
 use crate::reading::own_line;
-use text::starts_with;
+use text::line_end;
 
 const BYTE_LIMIT: usize = 65_536;
 
-pub const HEADER_BYTES: usize = 6;
-
-const WRONG_HEADER: u64 = 9;
+const WRONG_HEADING: u64 = 9;
 
 const TOO_LONG: u64 = 10;
 
@@ -37,10 +36,11 @@ pub fn reply_to(book: &[u8], places: usize) -> Reply
     if book.len() > BYTE_LIMIT {
         return refused(TOO_LONG);
     }
-    if !starts_with(book, b"CRM\t1\n") {
-        return refused(WRONG_HEADER);
+    let at = line_end(book, 0);
+    let heading = read_heading(&book[..at]);
+    if heading.is_wrong() {
+        return refused(WRONG_HEADING);
     }
-    let at: usize = HEADER_BYTES;
     if own_line(book, at) {
         return refused(NO_DEAL_FIRST);
     }

@@ -1,5 +1,4 @@
 // The program conformance: answers every book of the set and compares each answer, byte for byte.
-mod compare;
 mod file;
 mod index;
 mod run;

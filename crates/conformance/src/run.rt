@@ -1,11 +1,11 @@
 // One book of the set.
 ghost use mathlib.Core.Path.{_≡_};
 ghost use Rattle.response.specs.Response.{printed};
-ghost use Rattle.conformance.specs.Same.{sameBytes};
-use crate::compare::same;
+ghost use Rattle.text.specs.Text.{sameBytes};
 use crate::file::read_file;
 use crate::show::text;
 use response::respond;
+use text::same;
 
 // Whether a book's answer is this one.
 fn answered(book: &[u8], answer: &[u8]) -> bool

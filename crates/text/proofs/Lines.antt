@@ -11,7 +11,7 @@ use lib.Seq.{drop-cons, drop-drop, take-all}
 use Rattle.base.specs.All.{allPass}
 use Rattle.base.proofs.Every.{both}
 use Rattle.base.proofs.Tests.{told-not-false}
-use Rattle.base.proofs.Choice.{if-true, if-false, never}
+use Rattle.base.proofs.Choice.{if-true, if-false}
 use Rattle.text.specs.Text.{lineFeed, startsWith, firstLine, extendFirst, linesOf, ended}
 
 -- where a byte is a line feed, and where it is none
@@ -93,14 +93,6 @@ lines-append (x ∷ y ∷ ys) b h = go (lines-append (y ∷ ys) b h) (eqb x line
         → linesOf (x ∷ y ∷ (ys ++ b)) ≡ linesOf (x ∷ y ∷ ys) ++ linesOf b
     go k true e = rw (lines-fed x (y ∷ (ys ++ b)) e, lines-fed x (y ∷ ys) e, k)
     go k false e = rw (lines-unfed x (y ∷ (ys ++ b)) e, lines-unfed x (y ∷ ys) e, k, lines-first y ys)
-
-pub starts-long : (prefix text : List ℕ) → startsWith prefix text ≡ true → length prefix ≤ length text
-unfolding startsWith
-starts-long [] text h = omega arith
-starts-long (p ∷ ps) [] h = absurd (never h refl)
-starts-long (p ∷ ps) (b ∷ bs) h =
-    let k = starts-long ps bs (both (eqb b p) (startsWith ps bs) h .1) in
-    omega (arith, k)
 
 -- a start without a line feed is that of the first line
 pub starts-first : (prefix text : List ℕ) → allPass prefix (λ p. not (eqb p lineFeed)) ≡ true → startsWith prefix (firstLine text) ≡ startsWith prefix text

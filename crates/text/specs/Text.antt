@@ -19,6 +19,13 @@ startsWith [] text = true
 startsWith (p ∷ ps) [] = false
 startsWith (p ∷ ps) (b ∷ bs) = eqb b p && startsWith ps bs
 
+-- whether two texts are the same: byte for byte, and neither longer than the other
+unfoldable pub sameBytes : List ℕ → List ℕ → Bool
+sameBytes [] [] = true
+sameBytes [] (b ∷ bs) = false
+sameBytes (x ∷ xs) [] = false
+sameBytes (x ∷ xs) (b ∷ bs) = eqb x b && sameBytes xs bs
+
 -- lines, with one byte more in front of the first; a line of its own where there is none
 unfoldable pub extendFirst : ℕ → List (List ℕ) → List (List ℕ)
 extendFirst b [] = (b ∷ []) ∷ []

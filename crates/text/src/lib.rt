@@ -2,7 +2,7 @@
 ghost use mathlib.Core.Path.{_≡_};
 ghost use Prim.Native.Nat.{_+_, _≤_};
 ghost use lib.ListN.{drop, length};
-ghost use Rattle.text.specs.Text.{firstLine, startsWith};
+ghost use Rattle.text.specs.Text.{firstLine, sameBytes, startsWith};
 ghost use Rattle.text.specs.Working.{Near, noFeeds};
 
 pub const TAB: u8 = 9;
@@ -24,6 +24,16 @@ pub fn starts_with(text: &[u8], prefix: &[u8]) -> bool
         i += 1;
     }
     true
+}
+
+// Whether two texts are the same, byte for byte.
+pub fn same(first: &[u8], second: &[u8]) -> bool
+    ensures { λ r. ⌜ r ≡ sameBytes (now (first .entry)) (now (second .entry)) ⌝ }
+{
+    if first.len() != second.len() {
+        return false;
+    }
+    starts_with(first, second)
 }
 
 // Whether none of the eight bytes from here on is a line feed. Without branches, so that they are compared at once.

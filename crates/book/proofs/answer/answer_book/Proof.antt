@@ -1,20 +1,20 @@
 -- `book::answer::answer_book` meets its contract: a book that meets no test has its deals answered. Assumes nothing.
-use Prim.Native.Nat.{ℕ, _≤_}
-use mathlib.Core.Path.{_≡_, refl, sym, _∙_, ap}
-use mathlib.Core.Bool.{true, false}
+use Prim.Native.Nat.{ℕ, _-_, _≤_}
+use mathlib.Core.Path.{_≡_, sym, _∙_, ap}
+use mathlib.Core.Bool.{false}
 use mathlib.Core.List.{List}
 use borrow.Author.Tests.{ne-eqb, ltb-false}
 use native.Mathlib.Omega.{arith}
 use lib.Dec.{eqb}
-use lib.ListN.{length, drop, length-drop}
-use Rattle.base.proofs.Tests.{tests, told-not-true}
-use Rattle.text.specs.Text.{startsWith, linesOf}
-use Rattle.text.proofs.Lines.{starts-long, rest-part}
+use lib.ListN.{length, take, drop, length-drop}
+use Rattle.base.proofs.Tests.{tests}
+use Rattle.text.specs.Text.{firstLine, linesOf}
+use Rattle.text.proofs.Lines.{first-inside, rest-part}
 use Rattle.book.specs.Deals.{dealsFrom}
 use Rattle.book.specs.Answers.{answersFrom}
 use Rattle.book.specs.Working.{ownFirst}
-use Rattle.book.specs.Book.{bookLimit, header, bookTests, bookRefusal, overwrite}
-use Rattle.book.proofs.Refusing.{second-wrong, reply-refusal, accepted-tests, enough, refused-results, accepted-results}
+use Rattle.book.specs.Book.{bookLimit, textBehind, bookTests, bookRefusal, overwrite}
+use Rattle.book.proofs.Refusing.{heading-right, second-wrong, reply-refusal, accepted-tests, enough, refused-results, accepted-results}
 use Rattle.book.proofs.answer.answer_book.Statement.{statement}
 use Rattle.book.proofs.answer.answer_book.Tie as tie
 
@@ -36,34 +36,47 @@ returns c =
     let r = c .before .before in
     (r .reply-to .ensures, sym (refused-results (book₁ r) (before₁ r) (ap (λ n. eqb n 0) (refusal₁ r) ∙ ne-eqb _ _ (c .if1 .taken))))
 
+line-end-requires : tie.Need-line-end-requires
+line-end-requires c κs = omega arith
+
 -- what an accepted book has
-module _ (c : tie.Else1) where
+module _ (c : tie.After-line-end) where
   abbrev book₂ : List ℕ
-  book₂ = book₁ (c .before .before)
+  book₂ = book₁ (c .before .before .before)
 
   abbrev places₂ : ℕ
-  places₂ = length (before₁ (c .before .before))
+  places₂ = length (before₁ (c .before .before .before))
 
   accepted : bookRefusal book₂ places₂ ≡ 0
-  accepted = refusal₁ (c .before .before) ∙ c .if1 .left
+  accepted = refusal₁ (c .before .before .before) ∙ c .before .if1 .left
 
   short : length book₂ ≤ bookLimit
   unfolding bookTests
   short = ltb-false bookLimit (length book₂) (accepted-tests book₂ places₂ accepted .0)
 
-  long : 6 ≤ length book₂
+  long : length (firstLine book₂) ≡ 6
   unfolding bookTests
-  long = starts-long header book₂ (told-not-true (startsWith header book₂) _ refl (accepted-tests book₂ places₂ accepted .1 .0))
+  long = ap length (heading-right (firstLine book₂) (accepted-tests book₂ places₂ accepted .1 .0))
 
-  begins : ownFirst (drop 6 book₂) ≡ false
+  begins : ownFirst (textBehind book₂) ≡ false
   unfolding bookTests
-  begins = sym (second-wrong (drop 6 book₂)) ∙ accepted-tests book₂ places₂ accepted .1 .1 .0
+  begins = sym (second-wrong (textBehind book₂)) ∙ accepted-tests book₂ places₂ accepted .1 .1 .0
+
+  ends : c .line-end .result ≡ length (firstLine book₂)
+  ends = omega (arith, c .line-end .ensures)
+
+  inside : c .line-end .result ≤ length book₂
+  inside = omega (arith, ends, first-inside book₂)
+
+  -- what is handed on
+  behind : take (length book₂ - c .line-end .result) (drop (c .line-end .result) book₂) ≡ textBehind book₂
+  behind = rest-part book₂ _ ∙ ap (λ n. drop n book₂) ends
 
 sub-answer-deals : tie.Need-sub-answer-deals
-sub-answer-deals c = long c
+sub-answer-deals c = inside c
 
 part-answer-deals-start : tie.Need-part-answer-deals-start
-part-answer-deals-start c = search (tests, long c)
+part-answer-deals-start c = search (tests, inside c)
 
 part-answer-deals-end : tie.Need-part-answer-deals-end
 part-answer-deals-end c = search tests
@@ -71,8 +84,8 @@ part-answer-deals-end c = search tests
 answer-deals-requires : tie.Need-answer-deals-requires
 answer-deals-requires c κs =
     let e = c .before .before in
-    let l = length-drop 6 (book₂ e) in
-    rw (rest-part (book₂ e) 6) (begins e, (omega (arith, l, short e, long e), enough (book₂ e) (places₂ e) (accepted e)))
+    let l = length-drop (length (firstLine (book₂ e))) (book₂ e) in
+    rw (behind e) (begins e, (omega (arith, l, short e, long e), enough (book₂ e) (places₂ e) (accepted e)))
 
 same-length : tie.Need-same-length
 same-length c = search tests
@@ -80,10 +93,10 @@ same-length c = search tests
 returns-2 : tie.Need-returns-2
 returns-2 c =
     let e = c .before .before .before .before .before in
-    let r = e .before .before in (
+    let r = e .before .before .before in (
       r .reply-to .ensures,
       c .before .before .answer-deals .ensures
-          ∙ ap (λ text. overwrite (answersFrom 1 (dealsFrom 2 (linesOf text))) (before₁ r)) (rest-part (book₁ r) 6)
+          ∙ ap (λ text. overwrite (answersFrom 1 (dealsFrom 2 (linesOf text))) (before₁ r)) (behind e)
           ∙ sym (accepted-results (book₁ r) (before₁ r) (accepted e)),
     )
 
@@ -93,6 +106,7 @@ answer-book-spec =
     (tie.spec
     reply-to-requires
     returns
+    line-end-requires
     sub-answer-deals
     part-answer-deals-start
     part-answer-deals-end

@@ -1,18 +1,22 @@
 -- `book::reply::reply_to` meets its contract: each test passed leaves the definition's later tests. Assumes nothing.
 use Prim.Native.Nat.{ℕ, _*_, _≤_}
 use mathlib.Core.Path.{_≡_, refl, sym, _∙_, ap}
-use mathlib.Core.Bool.{true, not}
+use mathlib.Core.Bool.{not}
 use mathlib.Core.List.{List, []}
 use borrow.Author.Tests.{lt-ltb, le-ltb}
 use native.Mathlib.Omega.{arith}
-use lib.ListN.{length, drop}
+use lib.ListN.{length, take, drop}
+use lib.Seq.{length-take-le}
+use Rattle.base.specs.All.{allPass}
 use Rattle.base.specs.FirstMet.{firstMet, firstOr}
 use Rattle.base.proofs.FirstMet.{met-first, not-met}
-use Rattle.base.proofs.Tests.{tests, told-not, told-not-true}
-use Rattle.text.specs.Text.{linesOf}
-use Rattle.text.proofs.Lines.{starts-long, rest-part}
-use Rattle.book.specs.Deals.{dealsFrom}
-use Rattle.book.specs.Book.{bookLimit, header, dealsOf, bookTests, bookRefusal}
+use Rattle.base.proofs.Tests.{tests}
+use Rattle.text.specs.Text.{firstLine, linesOf}
+use Rattle.text.proofs.Lines.{first-inside, first-taken, rest-part}
+use Rattle.book.specs.Deals.{opensDeal, dealsFrom}
+use Rattle.book.specs.Heading.{headingOf, isWrong}
+use Rattle.book.specs.Working.{ownFirst}
+use Rattle.book.specs.Book.{bookLimit, textBehind, linesBehind, dealsOf, bookTests, bookRefusal}
 use Rattle.book.proofs.Refusing.{second-wrong, refused-reply, accepted-reply}
 use Rattle.book.proofs.reply.reply_to.Statement.{statement}
 use Rattle.book.proofs.reply.reply_to.Tie as tie
@@ -31,15 +35,45 @@ returns c =
     let met = met-first 10 _ _ (lt-ltb bookLimit (length (a .book .now)) (omega (arith, c .before .if1 .taken))) in
     c .refused .ensures ∙ sym (refused-reply (a .book .now) (a .places) 10 refl met)
 
-past-1 : (c : tie.Else1) → let a = c .before .before .args in bookRefusal (a .book .now) (a .places) ≡ later (a .book .now) (a .places) 1
-unfolding bookRefusal bookTests
-past-1 c = not-met 10 _ _ (le-ltb bookLimit (length (c .before .before .args .book .now)) (omega (arith, c .if1 .left)))
+line-end-requires : tie.Need-line-end-requires
+line-end-requires c κs = omega arith
 
-slice-aggregate-starts-with : tie.Need-slice-aggregate-starts-with
-slice-aggregate-starts-with c = refl
+-- a book that is not too long, and where its first line ends
+module _ (c : tie.After-line-end) where
+  abbrev book : List ℕ
+  book = c .before .before .before .args .book .now
 
-starts-with-requires : tie.Need-starts-with-requires
-starts-with-requires c κs = tt
+  abbrev places : ℕ
+  places = c .before .before .before .args .places
+
+  past-1 : bookRefusal book places ≡ later book places 1
+  unfolding bookRefusal bookTests
+  past-1 = not-met 10 _ _ (le-ltb bookLimit (length book) (omega (arith, c .before .if1 .left)))
+
+  ends : c .line-end .result ≡ length (firstLine book)
+  ends = omega (arith, c .line-end .ensures)
+
+  inside : c .line-end .result ≤ length book
+  inside = omega (arith, ends, first-inside book)
+
+slice-aggregate-read-heading : tie.Need-slice-aggregate-read-heading
+slice-aggregate-read-heading c = sym (length-take-le _ _ (inside (c .before)))
+
+read-heading-requires : tie.Need-read-heading-requires
+read-heading-requires c κs = tt
+
+is-wrong-requires : tie.Need-is-wrong-requires
+is-wrong-requires c κs = tt
+
+-- what it says
+module _ (c : tie.After-is-wrong) where
+  abbrev line-ended : tie.After-line-end
+  line-ended = c .before .before .before
+
+  said : isWrong (headingOf (firstLine (book line-ended))) ≡ c .is-wrong .result
+  said =
+      let line = ap (λ n. take n (book line-ended)) (ends line-ended) ∙ first-taken (book line-ended) in
+      sym (c .is-wrong .ensures ∙ ap isWrong (c .before .read-heading .ensures ∙ ap headingOf line))
 
 refused-requires-2 : tie.Need-refused-requires-2
 refused-requires-2 c κs = tt
@@ -47,19 +81,23 @@ refused-requires-2 c κs = tt
 returns-2 : tie.Need-returns-2
 unfolding bookTests
 returns-2 c =
-    let a = c .before .before .before .before .before .before .args in
-    let met = past-1 (c .before .before .before .before) ∙ met-first 9 _ _ (told-not (c .before .before .starts-with .ensures) (c .before .if2 .taken)) in
-    c .refused2 .ensures ∙ sym (refused-reply (a .book .now) (a .places) 9 refl met)
+    let w = c .before .before in
+    let l = line-ended w in
+    let met = past-1 l ∙ met-first 9 _ _ (said w ∙ c .before .if2 .taken) in
+    c .refused2 .ensures ∙ sym (refused-reply (book l) (places l) 9 refl met)
 
-past-2 : (c : tie.Else2) → let a = c .before .before .before .before .before .args in bookRefusal (a .book .now) (a .places) ≡ later (a .book .now) (a .places) 2
+past-2 : (c : tie.Else2) → let l = line-ended (c .before) in bookRefusal (book l) (places l) ≡ later (book l) (places l) 2
 unfolding bookTests
-past-2 c = past-1 (c .before .before .before) ∙ not-met 9 _ _ (told-not (c .before .starts-with .ensures) (c .if2 .left))
-
-long : (c : tie.Else2) → 6 ≤ length (c .before .before .before .before .before .args .book .now)
-long c = starts-long header (c .before .before .before .before .before .args .book .now) (told-not-true _ _ (c .before .starts-with .ensures) (c .if2 .left))
+past-2 c = past-1 (line-ended (c .before)) ∙ not-met 9 _ _ (said (c .before) ∙ c .if2 .left)
 
 own-line-requires : tie.Need-own-line-requires
-own-line-requires c κs = long c
+own-line-requires c κs = inside (line-ended (c .before))
+
+-- whether the second line is refused
+second : (c : tie.After-own-line) → not (allPass (take 1 (linesBehind (book (line-ended (c .before .before))))) opensDeal) ≡ c .own-line .result
+second c =
+    let l = line-ended (c .before .before) in
+    second-wrong (textBehind (book l)) ∙ sym (c .own-line .ensures ∙ ap (λ n. ownFirst (drop n (book l))) (ends l))
 
 refused-requires-3 : tie.Need-refused-requires-3
 refused-requires-3 c κs = tt
@@ -67,21 +105,19 @@ refused-requires-3 c κs = tt
 returns-3 : tie.Need-returns-3
 unfolding bookTests
 returns-3 c =
-    let a = c .before .before .before .before .before .before .before .before .args in
-    let wrong = second-wrong (drop 6 (a .book .now)) ∙ sym (c .before .before .own-line .ensures) ∙ c .before .if3 .taken in
-    c .refused3 .ensures ∙ sym (refused-reply (a .book .now) (a .places) 12 refl (past-2 (c .before .before .before) ∙ met-first 12 _ _ wrong))
+    let o = c .before .before in
+    let l = line-ended (o .before .before) in
+    c .refused3 .ensures ∙ sym (refused-reply (book l) (places l) 12 refl (past-2 (o .before) ∙ met-first 12 _ _ (second o ∙ c .before .if3 .taken)))
 
-past-3 : (c : tie.Else3) → let a = c .before .before .before .before .before .before .before .args in bookRefusal (a .book .now) (a .places) ≡ later (a .book .now) (a .places) 3
+past-3 : (c : tie.Else3) → let l = line-ended (c .before .before .before) in bookRefusal (book l) (places l) ≡ later (book l) (places l) 3
 unfolding bookTests
-past-3 c =
-    let a = c .before .before .before .before .before .before .before .args in
-    past-2 (c .before .before) ∙ not-met 12 _ _ (second-wrong (drop 6 (a .book .now)) ∙ sym (c .before .own-line .ensures) ∙ c .if3 .left)
+past-3 c = past-2 (c .before .before) ∙ not-met 12 _ _ (second (c .before) ∙ c .if3 .left)
 
 sub-count-deals : tie.Need-sub-count-deals
-sub-count-deals c = long (c .before .before)
+sub-count-deals c = inside (line-ended (c .before .before .before))
 
 part-count-deals-start : tie.Need-part-count-deals-start
-part-count-deals-start c = search (tests, long (c .before .before))
+part-count-deals-start c = search (tests, inside (line-ended (c .before .before .before)))
 
 part-count-deals-end : tie.Need-part-count-deals-end
 part-count-deals-end c = search tests
@@ -89,8 +125,14 @@ part-count-deals-end c = search tests
 count-deals-requires : tie.Need-count-deals-requires
 count-deals-requires c κs = tt
 
-counted : (c : tie.After-count-deals) → c .count-deals .result ≡ length (dealsOf (c .before .before .before .before .before .before .before .before .before .args .book .now))
-counted c = c .count-deals .ensures ∙ ap (λ text. length (dealsFrom 2 (linesOf text))) (rest-part (c .before .before .before .before .before .before .before .before .before .args .book .now) 6)
+module _ (c : tie.After-count-deals) where
+  abbrev counted-line : tie.After-line-end
+  counted-line = line-ended (c .before .before .before .before .before)
+
+  counted : c .count-deals .result ≡ length (dealsOf (book counted-line))
+  counted =
+      let count : List ℕ → ℕ = λ text. length (dealsFrom 2 (linesOf text)) in
+      c .count-deals .ensures ∙ ap count (rest-part (book counted-line) _ ∙ ap (λ n. drop n (book counted-line)) (ends counted-line))
 
 refused-requires-4 : tie.Need-refused-requires-4
 refused-requires-4 c κs = tt
@@ -98,18 +140,18 @@ refused-requires-4 c κs = tt
 returns-4 : tie.Need-returns-4
 unfolding bookTests
 returns-4 c =
-    let a = c .before .before .before .before .before .before .before .before .before .before .before .args in
     let n = c .before .before in
-    let short = lt-ltb (a .places) (4 * length (dealsOf (a .book .now))) (omega (arith, counted n, c .before .if4 .taken)) in
-    c .refused4 .ensures ∙ sym (refused-reply (a .book .now) (a .places) 13 refl (past-3 (n .before .before) ∙ met-first 13 _ _ short))
+    let l = counted-line n in
+    let short = lt-ltb (places l) (4 * length (dealsOf (book l))) (omega (arith, counted n, c .before .if4 .taken)) in
+    c .refused4 .ensures ∙ sym (refused-reply (book l) (places l) 13 refl (past-3 (n .before .before) ∙ met-first 13 _ _ short))
 
 returns-5 : tie.Need-returns-5
 unfolding bookTests firstOr
 returns-5 c =
-    let a = c .before .before .before .before .before .before .before .before .before .before .args in
     let n = c .before in
-    let enough = le-ltb (a .places) (4 * length (dealsOf (a .book .now))) (omega (arith, counted n, c .if4 .left)) in
-    ap (λ d. record { refusal = 0; deals = d }) (counted n) ∙ sym (accepted-reply (a .book .now) (a .places) (past-3 (n .before .before) ∙ not-met 13 _ [] enough))
+    let l = counted-line n in
+    let enough = le-ltb (places l) (4 * length (dealsOf (book l))) (omega (arith, counted n, c .if4 .left)) in
+    ap (λ d. record { refusal = 0; deals = d }) (counted n) ∙ sym (accepted-reply (book l) (places l) (past-3 (n .before .before) ∙ not-met 13 _ [] enough))
 
 pub reply-to-spec : {M : Type 1} → statement M
 reply-to-spec =
@@ -117,8 +159,10 @@ reply-to-spec =
     (tie.spec
     refused-requires
     returns
-    slice-aggregate-starts-with
-    starts-with-requires
+    line-end-requires
+    slice-aggregate-read-heading
+    read-heading-requires
+    is-wrong-requires
     refused-requires-2
     returns-2
     own-line-requires

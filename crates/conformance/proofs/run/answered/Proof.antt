@@ -6,7 +6,7 @@ use lib.ListN.{length, take}
 use lib.Seq.{length-take-le, take-append-seam}
 use Rattle.base.proofs.Tests.{tests}
 use Rattle.response.proofs.Printed.{printed-inside}
-use Rattle.conformance.specs.Same.{sameBytes}
+use Rattle.text.specs.Text.{sameBytes}
 use Rattle.conformance.proofs.run.answered.Statement.{statement}
 use Rattle.conformance.proofs.run.answered.Tie as tie
 

@@ -9,8 +9,7 @@ use lib.Dec.{eqb}
 use lib.ListN.{length}
 use Rattle.base.proofs.Choice.{never}
 use Rattle.base.proofs.Every.{both}
-use Rattle.text.specs.Text.{startsWith}
-use Rattle.conformance.specs.Same.{sameBytes}
+use Rattle.text.specs.Text.{sameBytes, startsWith}
 
 pub same-equal : (a b : List ℕ) → sameBytes a b ≡ true → a ≡ b
 unfolding sameBytes

@@ -1,10 +1,10 @@
--- `conformance::compare::same` meets its contract: of texts of one length, one starts with the other. Assumes nothing.
+-- `text::same` meets its contract: of texts of one length, one starts with the other. Assumes nothing.
 use mathlib.Core.Path.{sym, _∙_}
 use native.Mathlib.Omega.{arith}
 use Rattle.base.proofs.Tests.{tests}
-use Rattle.conformance.proofs.Same.{same-starts, other-length}
-use Rattle.conformance.proofs.compare.same.Statement.{statement}
-use Rattle.conformance.proofs.compare.same.Tie as tie
+use Rattle.text.proofs.Equal.{same-starts, other-length}
+use Rattle.text.proofs.same.Statement.{statement}
+use Rattle.text.proofs.same.Tie as tie
 
 returns : tie.Need-returns
 returns c = sym (other-length _ _ (λ e. omega arith))

@@ -1,0 +1,32 @@
+// The heading of a book: its first line.
+ghost use mathlib.Core.Path.{_≡_};
+ghost use Rattle.book.specs.Heading.{headingOf, isWrong};
+use text::same;
+
+// What the first line says.
+pub enum Heading {
+    // The number in its second field.
+    Edition(u64),
+    Wrong,
+}
+
+impl Heading {
+    pub fn is_wrong(self) -> bool
+        ensures { λ r. ⌜ r ≡ isWrong self ⌝ }
+    {
+        match self {
+            Heading::Edition(_) => false,
+            Heading::Wrong => true,
+        }
+    }
+}
+
+// A first line, with its line feed, if it has one.
+pub fn read_heading(line: &[u8]) -> Heading
+    ensures { λ r. ⌜ r ≡ headingOf (now (line .entry)) ⌝ }
+{
+    if same(line, b"CRM\t1\n") {
+        return Heading::Edition(1);
+    }
+    Heading::Wrong
+}
