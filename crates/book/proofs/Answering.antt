@@ -7,18 +7,18 @@ use native.Mathlib.Omega.{arith}
 use borrow.Author.Tests.{eq-eqb}
 use lib.Dec.{eqb}
 use lib.ListN.{length, length-append}
-use Rattle.base.proofs.Choice.{if-true, if-false}
-use Rattle.base.specs.FirstMet.{firstOr}
-use Rattle.deal.specs.Deals.{accepted, addCollateralTests, addCollateralRefusal, addGuaranteeTests, addGuaranteeRefusal, openedDeal}
+use Rattle.base.proofs.Choice.{either, if-true, if-false}
+use Rattle.deal.specs.Deals.{accepted, openedDeal}
 use Rattle.deal.specs.Terms.{termsRefusal}
 use Rattle.deal.specs.declared.deal.Deal.{Deal}
-use Rattle.relief.specs.Report.{reportOf}
+use Rattle.relief.specs.Report.{reportRefusal}
+use Rattle.relief.proofs.Reports.{accepted-unrefused}
 use Rattle.lines.specs.Lines.{lineOf}
 use Rattle.lines.specs.declared.line.Line.{Line}
 use Rattle.lines.specs.declared.line.Line.the-variants.{DealLine, CollateralLine, GuaranteeLine, Malformed}
 use Rattle.book.specs.Deals.{DealLines}
-use Rattle.book.specs.Answers.{openingRefusal, openedBy, lineRefusal, withLine, refusedAt, reported, linesAnswer, dealAnswer, answersFrom}
-use Rattle.book.specs.Working.{collateralRefusalAt, guaranteeRefusalAt, furtherRefusal, termsSaid}
+use Rattle.book.specs.Answers.{openingRefusal, openedBy, lineRefusal, withLine, refusedAt, figuresOf, reported, linesAnswer, dealAnswer, answersFrom}
+use Rattle.book.specs.Working.{termsSaid}
 
 -- three numbers, one by one
 pub three : {a b c x y z : ℕ} → a ≡ x → b ≡ y → c ≡ z → a ∷ b ∷ c ∷ [] ≡ x ∷ y ∷ z ∷ []
@@ -41,11 +41,11 @@ opening-terms Malformed e = absurd (omega (arith, e))
 
 -- a deal's answer from that line on
 pub opened-answer : (deal : DealLines) → openingRefusal (lineOf (deal .opening)) ≡ 0
-    → dealAnswer deal ≡ linesAnswer (deal .number + 1) (openedDeal (termsSaid (lineOf (deal .opening)))) (deal .further)
+    → dealAnswer deal ≡ linesAnswer (deal .number) (deal .number + 1) (openedDeal (termsSaid (lineOf (deal .opening)))) (deal .further)
 unfolding dealAnswer
 opened-answer deal e =
     if-true _ _ _ (eq-eqb _ 0 e)
-    ∙ ap (λ d. linesAnswer (deal .number + 1) d (deal .further)) (opened-by (lineOf (deal .opening)))
+    ∙ ap (λ d. linesAnswer (deal .number) (deal .number + 1) d (deal .further)) (opened-by (lineOf (deal .opening)))
 
 pub unopened-answer : (deal : DealLines) → eqb (openingRefusal (lineOf (deal .opening))) 0 ≡ false
     → dealAnswer deal ≡ openingRefusal (lineOf (deal .opening)) ∷ deal .number ∷ 0 ∷ []
@@ -53,27 +53,19 @@ unfolding dealAnswer refusedAt
 unopened-answer deal e = if-false _ _ _ e
 
 -- from one more line
-module _ (number : ℕ) (d : Deal) (line : List ℕ) (lines : List (List ℕ)) where
-  pub accepted-line : eqb (lineRefusal d (lineOf line)) 0 ≡ true → linesAnswer number d (line ∷ lines) ≡ linesAnswer (number + 1) (withLine d (lineOf line)) lines
+module _ (opening number : ℕ) (d : Deal) (line : List ℕ) (lines : List (List ℕ)) where
+  pub accepted-line : eqb (lineRefusal d (lineOf line)) 0 ≡ true → linesAnswer opening number d (line ∷ lines) ≡ linesAnswer opening (number + 1) (withLine d (lineOf line)) lines
   unfolding linesAnswer
   accepted-line e = if-true _ _ _ e
 
-  pub refused-line : eqb (lineRefusal d (lineOf line)) 0 ≡ false → linesAnswer number d (line ∷ lines) ≡ lineRefusal d (lineOf line) ∷ number ∷ 0 ∷ []
+  pub refused-line : eqb (lineRefusal d (lineOf line)) 0 ≡ false → linesAnswer opening number d (line ∷ lines) ≡ lineRefusal d (lineOf line) ∷ number ∷ 0 ∷ []
   unfolding linesAnswer refusedAt
   refused-line e = if-false _ _ _ e
 
 -- and after the last
-pub no-more-lines : (number : ℕ) (d : Deal) → linesAnswer number d [] ≡ 0 ∷ reportOf d .exposure ∷ reportOf d .weighted ∷ []
+pub no-more-lines : (opening number : ℕ) (d : Deal) → accepted d ≡ true → linesAnswer opening number d [] ≡ figuresOf d
 unfolding linesAnswer reported
-no-more-lines number d = refl
-
--- where a deal is accepted, its counts alone decide how a line is refused
-pub refusal-counts : (d : Deal) (line : Line) → accepted d ≡ true → lineRefusal d line ≡ furtherRefusal (d .collateral .count) (d .guarantees .count) line
-unfolding lineRefusal furtherRefusal addCollateralRefusal addCollateralTests addGuaranteeRefusal addGuaranteeTests collateralRefusalAt guaranteeRefusalAt firstOr
-refusal-counts d (CollateralLine c) h = rw h (if-false _ _ _ refl)
-refusal-counts d (GuaranteeLine g) h = rw h (if-false _ _ _ refl)
-refusal-counts d (DealLine t) h = refl
-refusal-counts d Malformed h = refl
+no-more-lines opening number d h = if-true _ _ _ (eq-eqb _ 0 (accepted-unrefused d h))
 
 -- the answers to several deals
 pub no-answers : (serial : ℕ) → answersFrom serial [] ≡ []
@@ -85,20 +77,18 @@ unfolding answersFrom
 answers-more serial deal deals = refl
 
 -- a deal's answer is three numbers behind its serial
-lines-three : (number : ℕ) (d : Deal) (lines : List (List ℕ)) → length (linesAnswer number d lines) ≡ 3
-lines-three number d [] = ap length (no-more-lines number d)
-lines-three number d (line ∷ lines) = go (eqb (lineRefusal d (lineOf line)) 0) refl (lines-three (number + 1) (withLine d (lineOf line)) lines)
-  where
-    go : (t : Bool) → eqb (lineRefusal d (lineOf line)) 0 ≡ t → length (linesAnswer (number + 1) (withLine d (lineOf line)) lines) ≡ 3 → length (linesAnswer number d (line ∷ lines)) ≡ 3
-    go true e later = ap length (accepted-line number d line lines e) ∙ later
-    go false e later = ap length (refused-line number d line lines e)
+lines-three : (opening number : ℕ) (d : Deal) (lines : List (List ℕ)) → length (linesAnswer opening number d lines) ≡ 3
+unfolding linesAnswer reported refusedAt
+lines-three opening number d [] = either (λ (l : List ℕ). length l ≡ 3) (eqb (reportRefusal d) 0) (λ e. refl) (λ e. refl)
+lines-three opening number d (line ∷ lines) =
+    either (λ (l : List ℕ). length l ≡ 3) (eqb (lineRefusal d (lineOf line)) 0) (λ e. lines-three opening (number + 1) (withLine d (lineOf line)) lines) (λ e. refl)
 
 deal-three : (deal : DealLines) → length (dealAnswer deal) ≡ 3
 unfolding dealAnswer
 deal-three deal = go (eqb (openingRefusal (lineOf (deal .opening))) 0) refl
   where
     go : (t : Bool) → eqb (openingRefusal (lineOf (deal .opening))) 0 ≡ t → length (dealAnswer deal) ≡ 3
-    go true e = ap length (if-true _ _ _ e) ∙ lines-three (deal .number + 1) (openedBy (lineOf (deal .opening))) (deal .further)
+    go true e = ap length (if-true _ _ _ e) ∙ lines-three (deal .number) (deal .number + 1) (openedBy (lineOf (deal .opening))) (deal .further)
     go false e = ap length (unopened-answer deal e)
 
 pub answers-long : (serial : ℕ) (deals : List DealLines) → length (answersFrom serial deals) ≡ 4 * length deals

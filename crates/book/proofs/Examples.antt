@@ -13,6 +13,8 @@ use Rattle.text.specs.Text.{tab, startsWith, sameBytes, extendFirst, linesOf, f
 use Rattle.text.proofs.Bytes.{only}
 use Rattle.deal.specs.Fields.{collateralIn, guaranteeIn, termsIn}
 use Rattle.deal.specs.Deals.{openedDeal, addCollateralTests, addCollateralRefusal, withCollateral, addGuaranteeTests, addGuaranteeRefusal, withGuarantee}
+use Rattle.deal.specs.Items.{collateralListTests, guaranteeListTests}
+use Rattle.relief.specs.Report.{reportRefusal}
 use Rattle.relief.proofs.Computed.{computed}
 use Rattle.lines.specs.Numbers.{digitsOf, numberAllowed, numberRead, numberOf}
 use Rattle.lines.specs.Fields.{fieldOf, isEnd, andThen, withNumber, fieldsOf}
@@ -26,7 +28,7 @@ use Rattle.book.specs.declared.reply.Reply.{Reply}
 
 -- `unfolding worked` opens every definition that an answer comes from
 unfoldable pub worked : List ℕ → List ℕ → List ℕ
-unfolding computed openedDeal addCollateralTests addCollateralRefusal withCollateral addGuaranteeTests addGuaranteeRefusal withGuarantee firstOr within if_then_else_ startsWith sameBytes extendFirst linesOf firstLine decimalFrom digitsOf numberAllowed numberRead numberOf fieldOf isEnd andThen withNumber fieldsOf dealLine collateralLine guaranteeLine termsIn collateralIn guaranteeIn ifRead lineOf ownLines dealsFrom openingRefusal openedBy lineRefusal withLine refusedAt reported linesAnswer dealAnswer answersFrom headingOf bookTests bookRefusal answeredDeals bookReply resultsAfter
+unfolding computed openedDeal reportRefusal collateralListTests guaranteeListTests addCollateralTests addCollateralRefusal withCollateral addGuaranteeTests addGuaranteeRefusal withGuarantee firstOr within if_then_else_ startsWith sameBytes extendFirst linesOf firstLine decimalFrom digitsOf numberAllowed numberRead numberOf fieldOf isEnd andThen withNumber fieldsOf dealLine collateralLine guaranteeLine termsIn collateralIn guaranteeIn ifRead lineOf ownLines dealsFrom openingRefusal openedBy lineRefusal withLine refusedAt reported linesAnswer dealAnswer answersFrom headingOf bookTests bookRefusal answeredDeals bookReply resultsAfter
 worked book before = resultsAfter book before
 
 abbrev pub example : List ℕ

@@ -6,4 +6,3 @@ pub mod Grouping
 pub mod Held
 pub mod Passing
 pub mod Refusing
-pub mod Summed

@@ -70,6 +70,9 @@ module _ (text : List ℕ) (start number : ℕ) where
           others = p .others ∙ r .others;
         }
 
+pub read-as : {text : List ℕ} {start number end end′ next next′ : ℕ} → LinesRead text start number end next → end′ ≡ end → next′ ≡ next → LinesRead text start number end′ next′
+read-as r e n = rw (e, n) r
+
 -- the lines behind the one that opens a deal
 pub deal-read : (text : List ℕ) (number end next : ℕ) → opensDeal text ≡ true → LinesRead text (length (firstLine text)) (number + 1) end next → DealRead number text end next
 deal-read text number end next h r =

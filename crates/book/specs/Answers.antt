@@ -6,7 +6,7 @@ use Rattle.base.specs.Choice.{if_then_else_}
 use Rattle.deal.specs.Terms.{termsOf, termsRefusal}
 use Rattle.deal.specs.Deals.{openedDeal, addCollateralRefusal, withCollateral, addGuaranteeRefusal, withGuarantee}
 use Rattle.deal.specs.declared.deal.Deal.{Deal}
-use Rattle.relief.specs.Report.{reportOf}
+use Rattle.relief.specs.Report.{reportOf, reportRefusal}
 use Rattle.lines.specs.Lines.{lineOf}
 use Rattle.lines.specs.declared.line.Line.{Line}
 use Rattle.lines.specs.declared.line.Line.the-variants.{DealLine, CollateralLine, GuaranteeLine, Malformed}
@@ -52,23 +52,29 @@ withLine d Malformed = d
 unfoldable pub refusedAt : ℕ → ℕ → List ℕ
 refusedAt refusal number = refusal ∷ number ∷ 0 ∷ []
 
--- of an accepted deal, as it always is here (`each-answered`), so that the zeros beside a 40 never stand for figures
-unfoldable pub reported : Deal → List ℕ
-reported d = 0 ∷ reportOf d .exposure ∷ reportOf d .weighted ∷ []
+-- the figures of a deal's report
+abbrev pub figuresOf : Deal → List ℕ
+figuresOf d = 0 ∷ reportOf d .exposure ∷ reportOf d .weighted ∷ []
 
--- "A deal with a refused line is answered by the first one": a deal and the lines that follow, the first of which has this number
-unfoldable pub linesAnswer : ℕ → Deal → List (List ℕ) → List ℕ
-linesAnswer number d [] = reported d
-linesAnswer number d (line ∷ lines) =
+-- of a deal that the line with this number opened: where reporting refuses, that is said of this line. A deal of a book is always an accepted
+-- one (`each-answered`), so that no zeros beside a 40 stand for figures
+unfoldable pub reported : ℕ → Deal → List ℕ
+reported opening d = if eqb (reportRefusal d) 0 then figuresOf d else refusedAt (reportRefusal d) opening
+
+-- "A deal with a refused line is answered by the first one": a deal opened by the line with the first number, and the lines that follow,
+-- the first of which has the second
+unfoldable pub linesAnswer : ℕ → ℕ → Deal → List (List ℕ) → List ℕ
+linesAnswer opening number d [] = reported opening d
+linesAnswer opening number d (line ∷ lines) =
     let refusal = lineRefusal d (lineOf line) in
-    if eqb refusal 0 then linesAnswer (number + 1) (withLine d (lineOf line)) lines else refusedAt refusal number
+    if eqb refusal 0 then linesAnswer opening (number + 1) (withLine d (lineOf line)) lines else refusedAt refusal number
 
 -- the line that opens it, then its further lines
 unfoldable pub dealAnswer : DealLines → List ℕ
 dealAnswer deal =
     let line = lineOf (deal .opening) in
     if eqb (openingRefusal line) 0
-    then linesAnswer (deal .number + 1) (openedBy line) (deal .further)
+    then linesAnswer (deal .number) (deal .number + 1) (openedBy line) (deal .further)
     else refusedAt (openingRefusal line) (deal .number)
 
 -- "The four numbers: serial from 1; .."

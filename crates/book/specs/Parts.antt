@@ -12,7 +12,7 @@ use Rattle.text.specs.Text.{linesOf, ended}
 use Rattle.deal.specs.Deals.{accepted}
 use Rattle.deal.specs.declared.deal.Deal.{Deal}
 use Rattle.book.specs.Deals.{opensDeal, dealsFrom}
-use Rattle.book.specs.Answers.{refusedAt, reported, answersFrom}
+use Rattle.book.specs.Answers.{refusedAt, figuresOf, answersFrom}
 
 -- how many deals a text has, whatever its first line's number; and how many lines
 abbrev pub dealsIn : List ℕ → ℕ
@@ -36,4 +36,4 @@ Parted first second = (ended first ≡ true) ⊎ (second ≡ [])
 -- what a deal is answered by: a refused line, whose refusal is not 40, or the report of an accepted deal
 pub data Answered (answer : List ℕ) : Type 0 where
   byLine : (refusal number : ℕ) → answer ≡ refusedAt refusal number → eqb refusal 0 ≡ false → eqb refusal 40 ≡ false → Answered answer
-  byReport : (d : Deal) → accepted d ≡ true → answer ≡ reported d → Answered answer
+  byReport : (d : Deal) → accepted d ≡ true → answer ≡ figuresOf d → Answered answer

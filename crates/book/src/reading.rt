@@ -12,18 +12,17 @@ ghost use Rattle.book.specs.Answers.{dealAnswer, linesAnswer};
 ghost use Rattle.book.specs.Deals.{opensDeal, ownLines};
 ghost use Rattle.book.specs.Working.{DealRead, LinesRead, firstDeal, ownFirst};
 use crate::deals::opens_deal;
-use crate::refusal::further_refusal;
+use crate::refusal::MALFORMED;
 use crate::refusal::opening_refusal;
 use crate::refusal::terms_said;
-use cover::protection::Protection;
+use deal::collateral::CollateralList;
+use deal::guarantee::GuaranteeList;
 use deal::terms::Terms;
 use lines::line::Line;
 use lines::line::read_line;
-use relief::collateral::item_value;
-use relief::deal_amounts::amounts_of;
-use relief::guarantee::item_protection;
+use relief::bare::bare_amounts;
+use relief::report::full_report;
 use relief::roots::Roots;
-use tables::weights::counterparty_weight;
 use text::line_end;
 
 pub struct DealAnswer {
@@ -74,53 +73,72 @@ fn refused(text: &[u8], start: usize, number: u64, refusal: u64) -> DealAnswer
     }
 }
 
-// A deal opened on these terms, from its first further line on, which has this number. Each item is valued as it is read; no record of
-// the deal is kept.
-fn opened(text: &[u8], start: usize, number: u64, terms: Terms, roots: Roots) -> DealAnswer
-    requires { ⌜ (termsRefusal terms ≡ 0) × ((start ≤ length (now text)) × (number + length (now text) ≤ 65536 + start)) ⌝ }
-    requires { ⌜ RootsOf terms roots ⌝ }
-    ensures { λ r. ⌜ LinesRead (now (text .entry)) start number (r .end) (r .next) ⌝ }
-    ensures { λ r. ⌜ linesAnswer number (openedDeal terms) (ownLines (linesOf (drop start (now (text .entry))))) ≡ r .refusal ∷ r .figure ∷ r .weighted ∷ [] ⌝ }
+// A deal whose lines are read, with the figures of its report.
+fn with_figures(exposure: u64, weighted: u64, end: usize, next: u64) -> DealAnswer
+    ensures { λ r. ⌜ (r .refusal ≡ 0) × ((r .figure ≡ exposure) × ((r .weighted ≡ weighted) × ((r .end ≡ end) × (r .next ≡ next)))) ⌝ }
 {
-    let counterparty = terms.counterparty;
-    let limit = counterparty_weight(counterparty.class, counterparty.step);
-    let mut protections = [Protection::NONE; 16];
-    let mut guarantees: usize = 0;
-    let mut collateral: usize = 0;
-    let mut total: u64 = 0;
+    DealAnswer {
+        refusal: 0,
+        figure: exposure,
+        weighted,
+        end,
+        next,
+    }
+}
+
+// A deal opened on these terms by the line with this number, from its further lines on. Each goes into its list as adding does it.
+fn with_items(text: &[u8], start: usize, number: u64, terms: Terms, roots: Roots) -> DealAnswer
+    requires { ⌜ (termsRefusal terms ≡ 0) × ((start ≤ length (now text)) × (number + 1 + length (now text) ≤ 65536 + start)) ⌝ }
+    requires { ⌜ RootsOf terms roots ⌝ }
+    ensures { λ r. ⌜ LinesRead (now (text .entry)) start (number + 1) (r .end) (r .next) ⌝ }
+    ensures { λ r. ⌜ linesAnswer number (number + 1) (openedDeal terms) (ownLines (linesOf (drop start (now (text .entry))))) ≡ r .refusal ∷ r .figure ∷ r .weighted ∷ [] ⌝ }
+{
+    let mut collateral = CollateralList::empty();
+    let mut guarantees = GuaranteeList::empty();
     let mut at = start;
-    let mut next = number;
+    let mut next = number + 1;
     while own_line(text, at) {
         let end = line_end(text, at);
         let line = read_line(&text[at..end]);
-        let refusal = further_refusal(line, collateral, guarantees);
-        if refusal != 0 {
-            return refused(text, end, next, refusal);
-        }
+        let mut refusal = MALFORMED;
         match line {
             Line::CollateralLine(item) => {
-                total += item_value(terms, item, roots.deal);
-                collateral += 1;
+                let added = collateral.add(item);
+                collateral = added.list;
+                let answer = added.answer;
+                refusal = answer.number();
             }
             Line::GuaranteeLine(item) => {
-                let protection = item_protection(terms, item, limit, roots.guarantees);
-                protections[guarantees] = protection;
-                guarantees += 1;
+                let added = guarantees.add(item);
+                guarantees = added.list;
+                let answer = added.answer;
+                refusal = answer.number();
             }
             Line::DealLine(_) => {}
             Line::Malformed => {}
         }
+        if refusal != 0 {
+            return refused(text, end, next, refusal);
+        }
         at = end;
         next += 1;
     }
-    let amounts = amounts_of(terms, roots.deal, total, protections, guarantees);
-    DealAnswer {
-        refusal: 0,
-        figure: amounts.exposure,
-        weighted: amounts.weighted,
-        end: at,
-        next,
+    let report = full_report(terms, collateral, guarantees, roots);
+    with_figures(report.exposure, report.weighted, at, next)
+}
+
+// The same, where the deal may have no further line: its amounts then need no list.
+fn opened(text: &[u8], start: usize, number: u64, terms: Terms, roots: Roots) -> DealAnswer
+    requires { ⌜ (termsRefusal terms ≡ 0) × ((start ≤ length (now text)) × (number + 1 + length (now text) ≤ 65536 + start)) ⌝ }
+    requires { ⌜ RootsOf terms roots ⌝ }
+    ensures { λ r. ⌜ LinesRead (now (text .entry)) start (number + 1) (r .end) (r .next) ⌝ }
+    ensures { λ r. ⌜ linesAnswer number (number + 1) (openedDeal terms) (ownLines (linesOf (drop start (now (text .entry))))) ≡ r .refusal ∷ r .figure ∷ r .weighted ∷ [] ⌝ }
+{
+    if own_line(text, start) {
+        return with_items(text, start, number, terms, roots);
     }
+    let amounts = bare_amounts(terms, roots.deal);
+    with_figures(amounts.exposure, amounts.weighted, start, number + 1)
 }
 
 // The answer to the deal that a text starts with, given some roots.
@@ -139,6 +157,6 @@ pub fn answer_deal(text: &[u8], number: u64, roots: Roots) -> Answered
     }
     let terms = terms_said(line);
     let roots = roots.for_terms(terms);
-    let answer = opened(text, end, number + 1, terms, roots);
+    let answer = opened(text, end, number, terms, roots);
     Answered { answer, roots }
 }

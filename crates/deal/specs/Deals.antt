@@ -46,13 +46,16 @@ zeroGuarantee = record {
 abbrev pub dealOf : Terms → CollateralList → GuaranteeList → Deal
 dealOf t cs gs = record { terms = t; collateral = cs; guarantees = gs }
 
--- "A new deal's lists are all zeros"; "Without protection all its lists are empty" (01: Betterments)
+-- "A new deal's lists are all zeros"
+abbrev pub emptyCollateral : CollateralList
+emptyCollateral = record { items = replicate listLimit zeroCollateral; count = 0 }
+
+abbrev pub emptyGuarantees : GuaranteeList
+emptyGuarantees = record { items = replicate listLimit zeroGuarantee; count = 0 }
+
+-- "Without protection all its lists are empty" (01: Betterments)
 abbrev pub withoutProtection : Terms → Deal
-withoutProtection t = record {
-  terms = t;
-  collateral = record { items = replicate listLimit zeroCollateral; count = 0 };
-  guarantees = record { items = replicate listLimit zeroGuarantee; count = 0 };
-}
+withoutProtection t = dealOf t emptyCollateral emptyGuarantees
 
 -- a deal with these items, at most sixteen in each list; nothing in the places past them
 abbrev pub dealWith : Terms → List Collateral → List Guarantee → Deal

@@ -2,6 +2,7 @@
 ghost use mathlib.Core.Bool.{_&&_};
 ghost use mathlib.Core.Path.{_≡_};
 ghost use Rattle.deal.specs.Answers.{answerNumber};
+ghost use Rattle.deal.specs.Deals.{emptyCollateral};
 ghost use Rattle.deal.specs.Assets.{lifeAllowed};
 ghost use Rattle.deal.specs.Ranges.{conditionAllowed, daysAllowed};
 ghost use Rattle.deal.specs.Items.{collateralListAllowed, collateralListRefusal, collateralListWith, collateralRefusal};
@@ -103,6 +104,14 @@ impl Collateral {
 }
 
 impl CollateralList {
+    // A list of no items.
+    pub fn empty() -> CollateralList
+        ensures { λ r. ⌜ r ≡ emptyCollateral ⌝ }
+    {
+        let items = [Collateral::ZERO; 16];
+        CollateralList { items, count: 0 }
+    }
+
     // Whether the count fits and no counted item would be refused.
     pub fn allowed(self) -> bool
         ensures { λ r. ⌜ r ≡ collateralListAllowed self ⌝ }

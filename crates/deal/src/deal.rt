@@ -27,18 +27,12 @@ pub struct Reply {
 fn without_protection(terms: Terms) -> Deal
     ensures { λ r. ⌜ r ≡ withoutProtection terms ⌝ }
 {
-    let collateral = [Collateral::ZERO; 16];
-    let guarantees = [Guarantee::ZERO; 16];
+    let collateral = CollateralList::empty();
+    let guarantees = GuaranteeList::empty();
     Deal {
         terms,
-        collateral: CollateralList {
-            items: collateral,
-            count: 0,
-        },
-        guarantees: GuaranteeList {
-            items: guarantees,
-            count: 0,
-        },
+        collateral,
+        guarantees,
     }
 }
 

@@ -2,6 +2,7 @@
 ghost use mathlib.Core.Bool.{_&&_};
 ghost use mathlib.Core.Path.{_≡_};
 ghost use Rattle.deal.specs.Answers.{answerNumber};
+ghost use Rattle.deal.specs.Deals.{emptyGuarantees};
 ghost use Rattle.deal.specs.Ranges.{conditionAllowed, daysAllowed};
 ghost use Rattle.deal.specs.Items.{guaranteeListAllowed, guaranteeListRefusal, guaranteeListWith, guaranteeRefusal};
 use crate::answer::Answer;
@@ -93,6 +94,14 @@ impl Guarantee {
 }
 
 impl GuaranteeList {
+    // A list of no items.
+    pub fn empty() -> GuaranteeList
+        ensures { λ r. ⌜ r ≡ emptyGuarantees ⌝ }
+    {
+        let items = [Guarantee::ZERO; 16];
+        GuaranteeList { items, count: 0 }
+    }
+
     // Whether the count fits and no counted item would be refused.
     pub fn allowed(self) -> bool
         ensures { λ r. ⌜ r ≡ guaranteeListAllowed self ⌝ }

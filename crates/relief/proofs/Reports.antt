@@ -1,14 +1,17 @@
 -- The laws of reports, for every table and every record. Assumes nothing.
 use Prim.Native.Nat.{ℕ, _+_, _≤_, _<_}
 use mathlib.Core.Path.{_≡_, refl, ap, _∙_}
-use mathlib.Core.Bool.{true, false}
-use mathlib.Core.List.{List, []}
+use mathlib.Core.Bool.{true, false, not}
+use mathlib.Core.List.{List, [], _∷_}
 use mathlib.Core.Logic.{_≢_}
 use native.Mathlib.Omega.{arith}
 use native.Mathlib.Nat.{not-suc-le-zero}
 use lib.ListN.{length, getD, take, length-map, List·getD-map}
+use Rattle.base.specs.FirstMet.{_when_}
 use Rattle.base.specs.Sum.{sumOf}
 use Rattle.base.proofs.Choice.{either, if-true, if-false}
+use Rattle.base.proofs.FirstMet.{none-met}
+use Rattle.base.proofs.Tests.{not-false}
 use Rattle.base.proofs.Sum.{sum-map}
 use Rattle.base.proofs.Places.{length-zip}
 use Rattle.base.proofs.Placed.{sum-past, sum-places, sum-zip, zip-at, places-hold}
@@ -26,9 +29,14 @@ use Rattle.relief.specs.declared.report.Report.{Report}
 use Rattle.relief.specs.Outcomes.{outcomeValue, outcomeGround}
 use Rattle.relief.specs.Recognition.{guaranteeOutcome, protectionOf}
 use Rattle.relief.specs.Exposure.{exposureAfter, piecesOf, weightedAmount}
-use Rattle.relief.specs.Report.{noGuarantee, guaranteeReports, fullReport, refusedReport, reportUnder}
+use Rattle.relief.specs.Report.{noGuarantee, guaranteeReports, fullReport, refusedReport, reportRefusal, reportUnder}
 use Rattle.relief.proofs.Outcomes.{left-out-value}
 use Rattle.relief.proofs.Amounts.{exposure-bound}
+
+-- an accepted deal is not refused
+pub accepted-unrefused : (d : Deal) → accepted d ≡ true → reportRefusal d ≡ 0
+unfolding reportRefusal
+accepted-unrefused d e = none-met (40 when not (accepted d) ∷ []) (not-false (accepted d) e, tt)
 
 module _ (table : Table) (d : Deal) where
   pub report-accepted : accepted d ≡ true → reportUnder table d ≡ fullReport table (viewOf d)

@@ -89,9 +89,6 @@ said c =
 for-terms-requires : tie.Need-for-terms-requires
 for-terms-requires c κs = (said c .1, line-ended (c .before .before) .before .before .pre .1)
 
-add-opened : tie.Need-add-opened
-add-opened c = search tests
-
 opened-requires : tie.Need-opened-requires
 opened-requires c κs =
     let t = c .before in
@@ -106,7 +103,7 @@ returns-2 c =
     let o = t .before .before in
     let e = line-ended o in
     let s = e .before .before in
-    let lines : ℕ → Terms → List ℕ = λ n terms. linesAnswer (s .args .number + 1) (openedDeal terms) (ownLines (linesOf (drop n (text e)))) in (
+    let lines : ℕ → Terms → List ℕ = λ n terms. linesAnswer (s .args .number) (s .args .number + 1) (openedDeal terms) (ownLines (linesOf (drop n (text e)))) in (
       (
         deal-read (text e) (s .args .number) _ _ (s .pre .0 .0) (rw (ends e) at (c .opened .ensures .0)),
         opened-answer (firstDeal (s .args .number) (text e)) (sym (refusal o) ∙ t .before .if1 .left)
@@ -129,6 +126,5 @@ answer-deal-spec =
     returns
     terms-said-requires
     for-terms-requires
-    add-opened
     opened-requires
     returns-2)
