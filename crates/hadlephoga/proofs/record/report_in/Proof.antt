@@ -25,7 +25,7 @@ returns-2 : tie.Need-returns-2
 unfolding reportIn
 returns-2 c =
     let d = c .before in
-    c .of .ensures .1 ∙ ap reportOf (d .deal-in .ensures) ∙ sym (if-true _ _ _ (eq-eqb _ _ (d .before .if1 .left)))
+    c .of .ensures .0 .1 ∙ ap reportOf (d .deal-in .ensures) ∙ sym (if-true _ _ _ (eq-eqb _ _ (d .before .if1 .left)))
 
 pub report-in-spec : {M : Type 1} → statement M
 report-in-spec =
