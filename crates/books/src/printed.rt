@@ -16,11 +16,9 @@ fn wide(byte: u8) -> u64 {
 }
 
 // A number that depends on every byte and on their order.
-fn sum(bytes: &[u8], count: usize) -> u64
-    requires { ⌜ count ≤ length (now bytes) ⌝ }
-{
+fn sum(bytes: &[u8]) -> u64 {
     let mut sum: u64 = 0;
-    for i in 0..count {
+    for i in 0..bytes.len() {
         sum = sum % 1_000_000_007 * 31 + wide(bytes[i]) % 256;
     }
     sum
@@ -35,7 +33,7 @@ fn printed(book: &[u8], count: usize)
     text(b"printed");
     show::number(length as u64);
     text(b" | sum");
-    show::number(sum(&out, length));
+    show::number(sum(&out[..length]));
     text(b"\n");
 }
 

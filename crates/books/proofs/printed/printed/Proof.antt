@@ -1,7 +1,7 @@
 -- `books::printed::printed` is safe and ends: the text is a part of the buffer. Assumes the contract of writing.
-use Prim.Native.Nat.{ℕ}
+use Prim.Native.Nat.{_≤_}
 use mathlib.Core.Path.{sym}
-use lib.ListN.{length-replicate}
+use lib.ListN.{length}
 use lib.Seq.{length-take-le}
 use Rattle.base.proofs.Tests.{tests}
 use Rattle.response.proofs.Printed.{printed-inside}
@@ -11,14 +11,8 @@ use Rattle.books.proofs.printed.printed.Tie as tie
 slice-aggregate-respond : tie.Need-slice-aggregate-respond
 slice-aggregate-respond c = sym (length-take-le _ _ (c .before .before .pre))
 
-slice-aggregate-respond-2 : tie.Need-slice-aggregate-respond-2
-slice-aggregate-respond-2 c = search tests
-
-slice-aggregate-respond-3 : tie.Need-slice-aggregate-respond-3
-slice-aggregate-respond-3 c = search tests
-
 respond-requires : tie.Need-respond-requires
-respond-requires c κs = (length-replicate {A = ℕ} 8192 77777, length-replicate {A = ℕ} 172061 0)
+respond-requires c κs = tt
 
 slice-aggregate-text : tie.Need-slice-aggregate-text
 slice-aggregate-text c = search tests
@@ -35,11 +29,17 @@ slice-aggregate-text-2 c = search tests
 text-requires-2 : tie.Need-text-requires-2
 text-requires-2 c κs = search tests
 
+inside : (c : tie.After-respond) → c .respond .result ≤ length (c .respond .last .1 .1 .0)
+inside c = printed-inside _ _ _ _ (c .respond .ensures .0)
+
+array-share-prefix-out : tie.Need-array-share-prefix-out
+array-share-prefix-out c = inside (c .before .before .before .before .before)
+
 slice-aggregate-sum : tie.Need-slice-aggregate-sum
-slice-aggregate-sum c = search tests
+slice-aggregate-sum c = sym (length-take-le _ _ (inside (c .before .before .before .before .before .before)))
 
 sum-requires : tie.Need-sum-requires
-sum-requires c κs = printed-inside _ _ _ _ (c .before .before .before .before .before .before .before .before .respond .ensures)
+sum-requires c κs = tt
 
 number-requires-2 : tie.Need-number-requires-2
 number-requires-2 c κs = search tests
@@ -58,14 +58,13 @@ printed-spec =
     tie.close
     (tie.spec
     slice-aggregate-respond
-    slice-aggregate-respond-2
-    slice-aggregate-respond-3
     respond-requires
     slice-aggregate-text
     text-requires
     number-requires
     slice-aggregate-text-2
     text-requires-2
+    array-share-prefix-out
     slice-aggregate-sum
     sum-requires
     number-requires-2

@@ -1,14 +1,15 @@
 -- `books::printed::sum` is safe and ends. Assumes nothing.
 use Prim.Native.Nat.{_-_, _≤_}
+use lib.ListN.{length}
 use Rattle.base.proofs.Tests.{tests}
 use Rattle.books.proofs.printed.sum.Statement.{statement}
 use Rattle.books.proofs.printed.sum.Tie as tie
 
 abbrev Inv-loop : tie.InvT-loop
-Inv-loop bytes count sum₀ i₀ sum i = i ≤ count
+Inv-loop bytes sum₀ i₀ i-end sum i = i ≤ length bytes
 
 abbrev μ-loop : tie.MeasureT-loop
-μ-loop bytes count sum₀ i₀ sum i = count - i
+μ-loop bytes sum₀ i₀ i-end sum i = length bytes - i
 
 loop-holds : tie.Need-loop-holds Inv-loop μ-loop
 loop-holds c = search tests

@@ -10,23 +10,17 @@ use Rattle.text.specs.Text.{sameBytes}
 use Rattle.conformance.proofs.run.answered.Statement.{statement}
 use Rattle.conformance.proofs.run.answered.Tie as tie
 
-slice-aggregate-respond : tie.Need-slice-aggregate-respond
-slice-aggregate-respond c = search tests
-
-slice-aggregate-respond-2 : tie.Need-slice-aggregate-respond-2
-slice-aggregate-respond-2 c = search tests
-
 respond-requires : tie.Need-respond-requires
-respond-requires c κs = search tests
+respond-requires c κs = tt
 
 inside : (c : tie.After-respond) → c .respond .result ≤ length (c .respond .last .1 .1 .0)
-inside c = printed-inside _ _ _ _ (c .respond .ensures)
+inside c = printed-inside _ _ _ _ (c .respond .ensures .0)
 
 array-share-prefix-out : tie.Need-array-share-prefix-out
-array-share-prefix-out c = inside (c .before .before)
+array-share-prefix-out c = inside c
 
 slice-aggregate-same : tie.Need-slice-aggregate-same
-slice-aggregate-same c = sym (length-take-le _ _ (inside (c .before .before .before)))
+slice-aggregate-same c = sym (length-take-le _ _ (inside (c .before)))
 
 same-requires : tie.Need-same-requires
 same-requires c κs = search tests
@@ -35,14 +29,12 @@ front : (n : ℕ) (text rest after answer : List ℕ) → (n ≡ length text) ×
 front n text rest after answer h = rw (h .0, h .1, take-append-seam)
 
 returns : tie.Need-returns
-returns c = c .same .ensures ∙ front _ _ _ _ _ (c .before .before .before .before .respond .ensures)
+returns c = c .same .ensures ∙ front _ _ _ _ _ (c .before .before .respond .ensures .0)
 
 pub answered-spec : {M : Type 1} → statement M
 answered-spec =
     tie.close
     (tie.spec
-    slice-aggregate-respond
-    slice-aggregate-respond-2
     respond-requires
     array-share-prefix-out
     slice-aggregate-same
