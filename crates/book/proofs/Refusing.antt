@@ -9,7 +9,7 @@ use lib.Dec.{eqb}
 use lib.ListN.{length, take}
 use Rattle.base.specs.All.{allPass}
 use Rattle.base.proofs.Choice.{if-true, if-false, either, never}
-use Rattle.base.proofs.FirstMet.{NoneMet, Exact, exact, none-exactly}
+use Rattle.base.proofs.FirstMet.{NoneMet, FirstIs, Exact, exact, first-is, none-met, none-exactly}
 use Rattle.text.specs.Text.{sameBytes, firstLine, linesOf}
 use Rattle.text.proofs.Equal.{same-equal}
 use Rattle.text.proofs.Lines.{lines-first, no-lines}
@@ -49,15 +49,17 @@ module _ (book : List ℕ) (places : ℕ) where
   unfolding answeredDeals
   all-answered e = if-true _ _ _ e
 
-  pub refused-reply : (refusal : ℕ) → eqb refusal 0 ≡ false → bookRefusal book places ≡ refusal → bookReply book places ≡ refusedReply refusal
-  unfolding bookReply
-  refused-reply refusal h e =
+  pub refused-reply : (refusal : ℕ) → eqb refusal 0 ≡ false → FirstIs refusal (bookTests book places) → bookReply book places ≡ refusedReply refusal
+  unfolding bookRefusal bookReply
+  refused-reply refusal h f =
+      let e = first-is refusal (bookTests book places) f in
       let none = none-answered (ap (λ n. eqb n 0) e ∙ h) in
       rw (e, none)
 
-  pub accepted-reply : bookRefusal book places ≡ 0 → bookReply book places ≡ record { refusal = 0; deals = length (dealsOf book) }
-  unfolding bookReply
-  accepted-reply e =
+  pub accepted-reply : NoneMet (bookTests book places) → bookReply book places ≡ record { refusal = 0; deals = length (dealsOf book) }
+  unfolding bookRefusal bookReply
+  accepted-reply n =
+      let e = none-met (bookTests book places) n in
       let every = all-answered (ap (λ n. eqb n 0) e) in
       rw (e, every)
 

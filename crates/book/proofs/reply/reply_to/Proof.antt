@@ -1,39 +1,34 @@
--- `book::reply::reply_to` meets its contract: each test passed leaves the definition's later tests. Assumes nothing.
+-- `book::reply::reply_to` meets its contract: a test that is met, and none before it. Assumes nothing.
 use Prim.Native.Nat.{ℕ, _*_, _≤_}
 use mathlib.Core.Path.{_≡_, refl, sym, _∙_, ap}
-use mathlib.Core.Bool.{not}
-use mathlib.Core.List.{List, []}
+use mathlib.Core.Bool.{false, not}
+use mathlib.Core.List.{List}
 use borrow.Author.Tests.{lt-ltb, le-ltb}
 use native.Mathlib.Omega.{arith}
+use lib.Dec.{ltb}
 use lib.ListN.{length, take, drop}
 use lib.Seq.{length-take-le}
 use Rattle.base.specs.All.{allPass}
-use Rattle.base.specs.FirstMet.{firstMet, firstOr}
-use Rattle.base.proofs.FirstMet.{met-first, not-met}
 use Rattle.base.proofs.Tests.{tests}
 use Rattle.text.specs.Text.{firstLine, linesOf}
 use Rattle.text.proofs.Lines.{first-inside, first-taken, rest-part}
 use Rattle.book.specs.Deals.{opensDeal, dealsFrom}
 use Rattle.book.specs.Heading.{headingOf, isWrong}
 use Rattle.book.specs.Working.{ownFirst}
-use Rattle.book.specs.Book.{bookLimit, textBehind, linesBehind, dealsOf, bookTests, bookRefusal}
+use Rattle.book.specs.Book.{bookLimit, textBehind, linesBehind, dealsOf, bookTests}
 use Rattle.book.proofs.Refusing.{second-wrong, refused-reply, accepted-reply}
 use Rattle.book.proofs.reply.reply_to.Statement.{statement}
 use Rattle.book.proofs.reply.reply_to.Tie as tie
-
--- what the tests after the first n give
-abbrev later : List ℕ → ℕ → ℕ → ℕ
-later book places n = firstMet (drop n (bookTests book places))
 
 refused-requires : tie.Need-refused-requires
 refused-requires c κs = tt
 
 returns : tie.Need-returns
-unfolding bookRefusal bookTests
+unfolding bookTests
 returns c =
     let a = c .before .before .before .args in
-    let met = met-first 10 _ _ (lt-ltb bookLimit (length (a .book .now)) (omega (arith, c .before .if1 .taken))) in
-    c .refused .ensures ∙ sym (refused-reply (a .book .now) (a .places) 10 refl met)
+    c .refused .ensures
+    ∙ sym (refused-reply (a .book .now) (a .places) 10 refl (lt-ltb bookLimit (length (a .book .now)) (omega (arith, c .before .if1 .taken))))
 
 line-end-requires : tie.Need-line-end-requires
 line-end-requires c κs = omega arith
@@ -46,9 +41,8 @@ module _ (c : tie.After-line-end) where
   abbrev places : ℕ
   places = c .before .before .before .args .places
 
-  past-1 : bookRefusal book places ≡ later book places 1
-  unfolding bookRefusal bookTests
-  past-1 = not-met 10 _ _ (le-ltb bookLimit (length book) (omega (arith, c .before .if1 .left)))
+  short : ltb bookLimit (length book) ≡ false
+  short = le-ltb bookLimit (length book) (omega (arith, c .before .if1 .left))
 
   ends : c .line-end .result ≡ length (firstLine book)
   ends = omega (arith, c .line-end .ensures)
@@ -83,12 +77,7 @@ unfolding bookTests
 returns-2 c =
     let w = c .before .before in
     let l = line-ended w in
-    let met = past-1 l ∙ met-first 9 _ _ (said w ∙ c .before .if2 .taken) in
-    c .refused2 .ensures ∙ sym (refused-reply (book l) (places l) 9 refl met)
-
-past-2 : (c : tie.Else2) → let l = line-ended (c .before) in bookRefusal (book l) (places l) ≡ later (book l) (places l) 2
-unfolding bookTests
-past-2 c = past-1 (line-ended (c .before)) ∙ not-met 9 _ _ (said (c .before) ∙ c .if2 .left)
+    c .refused2 .ensures ∙ sym (refused-reply (book l) (places l) 9 refl (short l, said w ∙ c .before .if2 .taken))
 
 own-line-requires : tie.Need-own-line-requires
 own-line-requires c κs = inside (line-ended (c .before))
@@ -106,12 +95,10 @@ returns-3 : tie.Need-returns-3
 unfolding bookTests
 returns-3 c =
     let o = c .before .before in
-    let l = line-ended (o .before .before) in
-    c .refused3 .ensures ∙ sym (refused-reply (book l) (places l) 12 refl (past-2 (o .before) ∙ met-first 12 _ _ (second o ∙ c .before .if3 .taken)))
-
-past-3 : (c : tie.Else3) → let l = line-ended (c .before .before .before) in bookRefusal (book l) (places l) ≡ later (book l) (places l) 3
-unfolding bookTests
-past-3 c = past-2 (c .before .before) ∙ not-met 12 _ _ (second (c .before) ∙ c .if3 .left)
+    let h = o .before in
+    let l = line-ended (h .before) in
+    c .refused3 .ensures
+    ∙ sym (refused-reply (book l) (places l) 12 refl (short l, (said (h .before) ∙ h .if2 .left, second o ∙ c .before .if3 .taken)))
 
 sub-count-deals : tie.Need-sub-count-deals
 sub-count-deals c = inside (line-ended (c .before .before .before))
@@ -125,14 +112,21 @@ part-count-deals-end c = search tests
 count-deals-requires : tie.Need-count-deals-requires
 count-deals-requires c κs = tt
 
+-- a book whose deals are counted passed the tests before
 module _ (c : tie.After-count-deals) where
-  abbrev counted-line : tie.After-line-end
-  counted-line = line-ended (c .before .before .before .before .before)
+  abbrev heading-read : tie.After-is-wrong
+  heading-read = c .before .before .before .before .before
 
-  counted : c .count-deals .result ≡ length (dealsOf (book counted-line))
+  abbrev line : tie.After-line-end
+  line = line-ended heading-read
+
+  passed : (isWrong (headingOf (firstLine (book line))) ≡ false) × (not (allPass (take 1 (linesBehind (book line))) opensDeal) ≡ false)
+  passed = (said heading-read ∙ c .before .before .before .before .if2 .left, second (c .before .before .before) ∙ c .before .before .if3 .left)
+
+  counted : c .count-deals .result ≡ length (dealsOf (book line))
   counted =
       let count : List ℕ → ℕ = λ text. length (dealsFrom 2 (linesOf text)) in
-      c .count-deals .ensures ∙ ap count (rest-part (book counted-line) _ ∙ ap (λ n. drop n (book counted-line)) (ends counted-line))
+      c .count-deals .ensures ∙ ap count (rest-part (book line) _ ∙ ap (λ n. drop n (book line)) (ends line))
 
 refused-requires-4 : tie.Need-refused-requires-4
 refused-requires-4 c κs = tt
@@ -141,17 +135,17 @@ returns-4 : tie.Need-returns-4
 unfolding bookTests
 returns-4 c =
     let n = c .before .before in
-    let l = counted-line n in
-    let short = lt-ltb (places l) (4 * length (dealsOf (book l))) (omega (arith, counted n, c .before .if4 .taken)) in
-    c .refused4 .ensures ∙ sym (refused-reply (book l) (places l) 13 refl (past-3 (n .before .before) ∙ met-first 13 _ _ short))
+    let l = line n in
+    let few = lt-ltb (places l) (4 * length (dealsOf (book l))) (omega (arith, counted n, c .before .if4 .taken)) in
+    c .refused4 .ensures ∙ sym (refused-reply (book l) (places l) 13 refl (short l, (passed n .0, (passed n .1, few))))
 
 returns-5 : tie.Need-returns-5
-unfolding bookTests firstOr
+unfolding bookTests
 returns-5 c =
     let n = c .before in
-    let l = counted-line n in
+    let l = line n in
     let enough = le-ltb (places l) (4 * length (dealsOf (book l))) (omega (arith, counted n, c .if4 .left)) in
-    ap (λ d. record { refusal = 0; deals = d }) (counted n) ∙ sym (accepted-reply (book l) (places l) (past-3 (n .before .before) ∙ not-met 13 _ [] enough))
+    ap (λ d. record { refusal = 0; deals = d }) (counted n) ∙ sym (accepted-reply (book l) (places l) (short l, (passed n .0, (passed n .1, (enough, tt)))))
 
 pub reply-to-spec : {M : Type 1} → statement M
 reply-to-spec =
