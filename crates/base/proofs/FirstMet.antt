@@ -76,18 +76,6 @@ met-first n met ts e = first-given 0 n met ts e
 pub not-met : (n : ℕ) (met : Bool) (ts : List (Test ℕ)) → met ≡ false → firstMet ((n when met) ∷ ts) ≡ firstMet ts
 not-met n met ts e = first-later 0 n met ts e
 
--- the tests with what they give read by f
-abbrev pub mapped : {A B : Type 0} → (A → B) → List (Test A) → List (Test B)
-mapped f [] = []
-mapped f ((given when met) ∷ ts) = f given when met ∷ mapped f ts
-
--- what the first one gives, read by f, is what the first of those gives
-pub first-mapped : {A B : Type 0} (f : A → B) (none : A) (ts : List (Test A)) → f (firstOr none ts) ≡ firstOr (f none) (mapped f ts)
-unfolding firstOr if_then_else_
-first-mapped f none [] = refl
-first-mapped f none ((given when true) ∷ ts) = refl
-first-mapped f none ((given when false) ∷ ts) = first-mapped f none ts
-
 -- exactly then is the number given: the one way
 pub first-is : (k : ℕ) (ts : List (Test ℕ)) → FirstIs k ts → firstMet ts ≡ k
 unfolding firstOr if_then_else_

@@ -1,5 +1,5 @@
 -- The laws of sums over a list. Assumes nothing.
-use Prim.Native.Nat.{ℕ, zero, suc, _+_, _*_, _≤_, _<_}
+use Prim.Native.Nat.{ℕ, zero, suc, _+_, _≤_, _<_}
 use mathlib.Core.Path.{_≡_, refl, ap}
 use mathlib.Core.List.{List, [], _∷_, _++_, map}
 use native.Mathlib.Numerals.{add-one}
@@ -25,33 +25,6 @@ module _ {A : Type 0} (f : A → ℕ) where
   sum-take-le zero xs = omega arith
   sum-take-le (suc i) [] = omega arith
   sum-take-le (suc i) (x ∷ xs) = omega (arith, sum-take-le i xs)
-
-  pub sum-bound : (b : ℕ) → ((x : A) → f x ≤ b) → (xs : List A) → sumOf f xs ≤ length xs * b
-  unfolding sumOf
-  sum-bound b h [] = omega arith
-  sum-bound b h (x ∷ xs) = omega (arith, h x, sum-bound b h xs)
-
-  -- the same where each element of the list, found by its place, keeps to the bound
-  pub sum-bound-at : (b : ℕ) (xs : List A) (d : A) → ((i : ℕ) → i < length xs → f (getD xs i d) ≤ b) → sumOf f xs ≤ length xs * b
-  unfolding sumOf
-  sum-bound-at b [] d h = omega arith
-  sum-bound-at b (x ∷ xs) d h = omega (arith, h zero (omega arith), sum-bound-at b xs d (λ i k. h (suc i) (omega arith)))
-
-module _ {A : Type 0} (f g : A → ℕ) where
-  pub sum-mono : ((x : A) → f x ≤ g x) → (xs : List A) → sumOf f xs ≤ sumOf g xs
-  unfolding sumOf
-  sum-mono h [] = omega arith
-  sum-mono h (x ∷ xs) = omega (arith, h x, sum-mono h xs)
-
-  pub sum-eq : ((x : A) → f x ≡ g x) → (xs : List A) → sumOf f xs ≡ sumOf g xs
-  unfolding sumOf
-  sum-eq h [] = refl
-  sum-eq h (x ∷ xs) = omega (arith, h x, sum-eq h xs)
-
-  pub sum-add : (xs : List A) → sumOf (λ x. f x + g x) xs ≡ sumOf f xs + sumOf g xs
-  unfolding sumOf
-  sum-add [] = refl
-  sum-add (x ∷ xs) = omega (arith, sum-add xs)
 
 pub sum-map : {A B : Type 0} (f : B → ℕ) (g : A → B) (xs : List A) → sumOf f (map g xs) ≡ sumOf (λ x. f (g x)) xs
 unfolding sumOf

@@ -3,7 +3,7 @@ use Prim.Native.Nat.{ℕ, suc, _+_, _*_}
 use mathlib.Core.Path.{_≡_, refl, sym, _∙_, ap}
 use mathlib.Core.Bool.{true}
 use mathlib.Core.List.{List, [], _∷_, _++_, append-assoc, append-nil}
-use mathlib.Core.Logic.{_⊎_, inl, ⊎-elim}
+use mathlib.Core.Logic.{inl, ⊎-elim}
 use native.Mathlib.Omega.{arith}
 use lib.ListN.{length, take, drop}
 use lib.Seq.{take-at, drop-at}
@@ -11,7 +11,6 @@ use Rattle.base.specs.All.{allPass}
 use Rattle.base.specs.Choice.{if_then_else_}
 use Rattle.text.specs.Text.{firstLine, linesOf, ended}
 use Rattle.text.proofs.Lines.{lines-append, no-lines}
-use Rattle.deal.specs.declared.deal.Deal.{Deal}
 use Rattle.book.specs.Deals.{DealLines, opensDeal, dealsFrom}
 use Rattle.book.specs.Answers.{dealAnswer, answersFrom}
 use Rattle.book.specs.Heading.{header}

@@ -11,7 +11,7 @@ use Rattle.base.proofs.Choice.{if-true}
 use Rattle.text.specs.Text.{firstLine, linesOf}
 use Rattle.deal.specs.Terms.{termsRefusal}
 use Rattle.deal.specs.Items.{collateralListRefusal, collateralListWith, guaranteeListRefusal, guaranteeListWith}
-use Rattle.deal.specs.Deals.{accepted, recordAllowed, dealOf, emptyCollateral, emptyGuarantees, openedDeal, withoutProtection}
+use Rattle.deal.specs.Deals.{recordAllowed, dealOf, emptyCollateral, emptyGuarantees, openedDeal, withoutProtection}
 use Rattle.deal.specs.Editions.{tableFor}
 use Rattle.deal.specs.Views.{viewOf}
 use Rattle.deal.specs.declared.terms.Terms.{Terms}

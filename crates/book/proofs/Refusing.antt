@@ -18,7 +18,6 @@ use Rattle.book.specs.Answers.{answersFrom}
 use Rattle.book.specs.Heading.{header, headingOf, isWrong}
 use Rattle.book.specs.Working.{ownFirst}
 use Rattle.book.specs.Book.{bookTests, bookRefusal, dealsOf, answeredDeals, refusedReply, bookReply, overwrite, resultsAfter}
-use Rattle.book.specs.declared.reply.Reply.{Reply}
 use Rattle.book.proofs.Grouping.{opens-first}
 use Rattle.book.proofs.Answering.{no-answers}
 
@@ -27,6 +26,10 @@ pub heading-right : (line : List ℕ) → isWrong (headingOf line) ≡ false →
 unfolding headingOf
 heading-right line =
     either (λ h. isWrong h ≡ false → line ≡ header) (sameBytes line header) (λ e h. same-equal line header e) (λ e h. absurd (never refl h))
+
+-- so it has some bytes, and the lines behind it can be numbered
+pub heading-long : (line : List ℕ) → isWrong (headingOf line) ≡ false → 2 ≤ length line
+heading-long line h = omega (arith, ap length (heading-right line h))
 
 -- the first line behind the heading opens no deal
 pub second-wrong : (text : List ℕ) → not (allPass (take 1 (linesOf text)) opensDeal) ≡ ownFirst text

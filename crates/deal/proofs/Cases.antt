@@ -4,7 +4,7 @@ use mathlib.Core.Path.{_≡_, refl}
 use mathlib.Core.List.{List, [], _∷_}
 use lib.ListN.{replicate}
 use Rattle.base.specs.Choice.{if_then_else_}
-use Rattle.base.specs.FirstMet.{firstMet, firstOr}
+use Rattle.base.specs.FirstMet.{firstOr}
 use Rattle.base.specs.Range.{within}
 use Rattle.deal.specs.Parties.{partyStepAllowed}
 use Rattle.deal.specs.Assets.{assetStepAllowed, lifeAllowed}

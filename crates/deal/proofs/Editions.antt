@@ -1,6 +1,5 @@
 -- The tables of every deal have the laws. Assumes nothing.
-use mathlib.Core.Path.{_≡_, refl}
-use Rattle.tables.specs.Table.{Table, TableLaws}
+use Rattle.tables.specs.Table.{TableLaws}
 use Rattle.tables.proofs.Laws.{lawful2019}
 use Rattle.deal.specs.Editions.{tableFor}
 use Rattle.deal.specs.declared.terms.Terms.{Terms}

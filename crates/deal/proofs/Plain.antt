@@ -3,7 +3,7 @@ use Prim.Native.Nat.{ℕ, _≤_, _<_}
 use mathlib.Core.Path.{_≡_, refl}
 use mathlib.Core.Bool.{Bool, true, false, not, _&&_}
 use native.Mathlib.Omega.{arith}
-use lib.Dec.{leb, ltb, eqb}
+use lib.Dec.{leb, eqb}
 use lib.ListN.{length, getD}
 use borrow.Author.Tests.{leb-true, ltb-false, eqb-true}
 use Rattle.base.specs.Choice.{if_then_else_}
@@ -12,9 +12,9 @@ use Rattle.base.proofs.Every.{both}
 use Rattle.base.proofs.FirstMet.{none-exactly}
 use Rattle.base.proofs.Range.{bounds}
 use Rattle.base.proofs.Tests.{told-not-true}
-use Rattle.deal.specs.Ranges.{amountAllowed, currencyAllowed, daysAllowed, intervalAllowed, conditionAllowed}
-use Rattle.deal.specs.Parties.{counterpartyKnown, providerKnown, partyStepAllowed}
-use Rattle.deal.specs.Assets.{goodsKnown, isDebt, assetStepAllowed, lifeAllowed}
+use Rattle.deal.specs.Ranges.{daysAllowed, intervalAllowed, conditionAllowed}
+use Rattle.deal.specs.Parties.{counterpartyKnown, partyStepAllowed}
+use Rattle.deal.specs.Assets.{isDebt, assetStepAllowed}
 use Rattle.deal.specs.Terms.{kindKnown, termsTests, termsRefusal}
 use Rattle.deal.specs.Items.{collateralTests, collateralRefusal, guaranteeTests, guaranteeRefusal, collateralListAllowed, guaranteeListAllowed}
 use Rattle.deal.specs.declared.asset.Asset.{Asset}

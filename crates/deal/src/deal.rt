@@ -88,13 +88,7 @@ impl Deal {
         let collateral = self.collateral;
         let guarantees = self.guarantees;
         let answer = terms.check();
-        if !answer.is_accepted() {
-            return false;
-        }
-        if !collateral.allowed() {
-            return false;
-        }
-        guarantees.allowed()
+        answer.is_accepted() & collateral.allowed() & guarantees.allowed()
     }
 
     // Whether this is an accepted deal, one that reporting takes.

@@ -11,6 +11,7 @@ use Rattle.scaling.specs.Period.{repoStyle, securedLending, holdingPeriod}
 use Rattle.scaling.specs.Scaling.{IsScaled}
 use Rattle.deal.specs.Terms.{termsOf}
 use Rattle.deal.specs.Deals.{dealWith}
+use Rattle.deal.specs.Editions.{tableFor}
 use Rattle.deal.specs.declared.terms.Terms.{Terms}
 use Rattle.deal.specs.declared.collateral.Collateral.{Collateral}
 use Rattle.deal.specs.declared.guarantee.Guarantee.{Guarantee}
@@ -128,7 +129,7 @@ starred =
     ∷ is (guaranteed 1 (guarantee 200000 1 1 abroad)) 184000
     -- "Repo lending type 8, amount 100, interval 6: raised to 125; same-currency cash 10, unmismatched, leaves E* 100 (not 115); cash 125
     -- leaves 0"
-    ∷ is (raisedExposure table2019 repo) 125
+    ∷ is (raisedExposure (tableFor repo) repo) 125
     ∷ is (left 10) 100
     ∷ is (left 125) 0
     -- "E* 100; guarantee of 80 at weight 20 added before one of 60 at 0: portions 40 and 60, weighted amount 8"

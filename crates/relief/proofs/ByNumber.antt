@@ -1,8 +1,7 @@
 -- A report's items by the paper's numbers. Assumes nothing.
-use Prim.Native.Nat.{ℕ}
 use mathlib.Core.Path.{_≡_, refl, ap, _∙_}
 use mathlib.Core.Bool.{Bool, true, false}
-use mathlib.Core.List.{List, [], map, map-map}
+use mathlib.Core.List.{[], map, map-map}
 use Rattle.base.specs.Choice.{if_then_else_}
 use Rattle.base.specs.Places.{inPlaces}
 use Rattle.base.proofs.Places.{map-places}
@@ -16,12 +15,10 @@ use Rattle.deal.specs.declared.terms.Terms.{Terms}
 use Rattle.deal.specs.declared.collateral.Collateral.{Collateral}
 use Rattle.deal.specs.declared.guarantee.Guarantee.{Guarantee}
 use Rattle.deal.specs.declared.deal.Deal.{Deal}
-use Rattle.relief.specs.declared.outcome.Outcome.{Outcome}
-use Rattle.relief.specs.declared.report.Report.{Report}
-use Rattle.relief.specs.Outcomes.{outcomeFor, outcomeGround, outcomeValue}
+use Rattle.relief.specs.Outcomes.{outcomeGround, outcomeValue}
 use Rattle.relief.specs.Recognition.{collateralGround, collateralValue, collateralOutcome, guaranteeGround, guaranteeValue, guaranteeOutcome}
 use Rattle.relief.specs.Report.{noCollateral, noGuarantee, collateralReports, guaranteeReports, fullReport, refusedReport, reportUnder, reportOf}
-use Rattle.relief.specs.ByNumber.{Place, placeOf, placeWith, collateralPlaces, guaranteePlaces}
+use Rattle.relief.specs.ByNumber.{placeOf, placeWith, collateralPlaces, guaranteePlaces}
 use Rattle.relief.proofs.Outcomes.{value-for}
 use Rattle.relief.proofs.Recognition.{collateral-number, guarantee-number}
 use Rattle.relief.proofs.Reports.{portion-each, shares}

@@ -1,6 +1,5 @@
 -- Each ground exactly where it is due, for every table. Assumes nothing.
-use Prim.Native.Nat.{ℕ}
-use mathlib.Core.Path.{_≡_, refl, ap, sym, subst}
+use mathlib.Core.Path.{_≡_, refl, sym, subst}
 use mathlib.Core.Bool.{true, false, not}
 use lib.Dec.{eqb}
 use Rattle.base.proofs.FirstMet.{ExactFor, exact}

@@ -1,6 +1,6 @@
 -- The grounds' numbers. 01: Grounds for leaving an item out.
 use Prim.Native.Nat.{ℕ, _-_}
-use mathlib.Core.List.{List, [], _∷_}
+use mathlib.Core.List.{[], _∷_}
 use lib.ListN.{getD}
 use Rattle.relief.specs.declared.ground.Ground.{Ground}
 use Rattle.relief.specs.declared.ground.Ground.the-variants.{NotLawful, Related, AlreadyInRating, NotEligible, ShortOriginalTerm, ShortResidualTerm, NotDirect, UnratedEntity, WeightNotBelow}

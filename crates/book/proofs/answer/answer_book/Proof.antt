@@ -14,7 +14,7 @@ use Rattle.book.specs.Deals.{dealsFrom}
 use Rattle.book.specs.Answers.{answersFrom}
 use Rattle.book.specs.Working.{ownFirst}
 use Rattle.book.specs.Book.{bookLimit, textBehind, bookTests, bookRefusal, overwrite}
-use Rattle.book.proofs.Refusing.{heading-right, second-wrong, reply-refusal, accepted-tests, enough, refused-results, accepted-results}
+use Rattle.book.proofs.Refusing.{heading-long, second-wrong, reply-refusal, accepted-tests, enough, refused-results, accepted-results}
 use Rattle.book.proofs.answer.answer_book.Statement.{statement}
 use Rattle.book.proofs.answer.answer_book.Tie as tie
 
@@ -54,9 +54,9 @@ module _ (c : tie.After-line-end) where
   unfolding bookTests
   short = ltb-false bookLimit (length book₂) (accepted-tests book₂ places₂ accepted .0)
 
-  long : length (firstLine book₂) ≡ 6
+  long : 2 ≤ length (firstLine book₂)
   unfolding bookTests
-  long = ap length (heading-right (firstLine book₂) (accepted-tests book₂ places₂ accepted .1 .0))
+  long = heading-long (firstLine book₂) (accepted-tests book₂ places₂ accepted .1 .0)
 
   begins : ownFirst (textBehind book₂) ≡ false
   unfolding bookTests

@@ -10,7 +10,7 @@ use lib.ListN.{length, drop}
 use lib.Seq.{drop-drop}
 use Rattle.base.proofs.Tests.{tests}
 use Rattle.text.specs.Text.{linesOf, firstLine}
-use Rattle.text.proofs.Lines.{lines-at, first-at-some, first-at-inside, rest-part, no-lines-at}
+use Rattle.text.proofs.Lines.{first-at-some, first-at-inside, rest-part, no-lines-at}
 use Rattle.book.specs.Deals.{opensDeal, dealsFrom}
 use Rattle.book.proofs.Grouping.{deals-first, deals-further, deals-counted, no-deals}
 use Rattle.book.proofs.deals.count_deals.Statement.{statement}

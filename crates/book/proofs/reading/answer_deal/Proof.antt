@@ -6,7 +6,6 @@ use native.Mathlib.Omega.{arith}
 use borrow.Author.Tests.{ne-eqb}
 use lib.ListN.{length, take, drop}
 use lib.Seq.{length-take-le}
-use Rattle.base.proofs.Tests.{tests}
 use Rattle.text.specs.Text.{firstLine, linesOf}
 use Rattle.text.proofs.Lines.{first-at-some, first-inside, first-taken}
 use Rattle.deal.specs.Deals.{openedDeal}

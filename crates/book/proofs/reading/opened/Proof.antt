@@ -1,10 +1,9 @@
 -- `book::reading::opened` meets its contract: a deal without further lines is one without protection. Assumes nothing.
-use mathlib.Core.Path.{_≡_, sym, _∙_}
+use mathlib.Core.Path.{sym, _∙_}
 use native.Mathlib.Omega.{arith}
-use Rattle.deal.specs.Deals.{emptyCollateral, emptyGuarantees}
 use Rattle.base.proofs.Tests.{told-false}
 use Rattle.book.proofs.Answering.{three}
-use Rattle.book.proofs.Held.{Held, held-first, held-answer}
+use Rattle.book.proofs.Held.{held-first, held-answer}
 use Rattle.book.proofs.Passing.{passed-all, read-as}
 use Rattle.book.proofs.reading.opened.Statement.{statement}
 use Rattle.book.proofs.reading.opened.Tie as tie

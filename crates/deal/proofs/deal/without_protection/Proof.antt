@@ -1,5 +1,4 @@
 -- `deal::deal::without_protection` meets its contract. Assumes nothing.
-use Rattle.base.proofs.Tests.{tests}
 use Rattle.deal.proofs.deal.without_protection.Statement.{statement}
 use Rattle.deal.proofs.deal.without_protection.Tie as tie
 

@@ -10,55 +10,42 @@ Inv-loop d f k₀ k = k ≤ 11
 abbrev μ-loop : tie.MeasureT-loop
 μ-loop d f k₀ k = 11 - k
 
--- src/additions.rt:136:10
 slice-aggregate-text : tie.Need-slice-aggregate-text Inv-loop μ-loop
 slice-aggregate-text c = search tests
 
--- src/additions.rt:136:5
 text-requires : tie.Need-text-requires Inv-loop μ-loop
 text-requires c κs = search tests
 
--- src/additions.rt:137:5
 loop-holds : tie.Need-loop-holds Inv-loop μ-loop
 loop-holds c = search tests
 
--- src/additions.rt:138:16
 mul-number : tie.Need-mul-number Inv-loop μ-loop
 mul-number c = search tests
 
--- src/additions.rt:138:16
 array-read-number : tie.Need-array-read-number Inv-loop μ-loop
 array-read-number c = search tests
 
--- src/additions.rt:138:9
 number-requires : tie.Need-number-requires Inv-loop μ-loop
 number-requires c κs = search tests
 
--- src/additions.rt:137:9
 add-k : tie.Need-add-k Inv-loop μ-loop
 add-k c = search tests
 
--- src/additions.rt:137:5
 loop-less : tie.Need-loop-less Inv-loop μ-loop
 loop-less c = search tests
 
--- src/additions.rt:137:5
 loop-again : tie.Need-loop-again Inv-loop μ-loop
 loop-again c = search tests
 
--- src/additions.rt:140:30
 collateral-of-requires : tie.Need-collateral-of-requires Inv-loop μ-loop
 collateral-of-requires c κs = search tests
 
--- src/additions.rt:140:9
 add-collateral-requires : tie.Need-add-collateral-requires Inv-loop μ-loop
 add-collateral-requires c κs = search tests
 
--- src/additions.rt:141:5
 reply-requires : tie.Need-reply-requires Inv-loop μ-loop
 reply-requires c κs = search tests
 
--- src/additions.rt:135:1
 returns : tie.Need-returns Inv-loop μ-loop
 returns c = search tests
 

@@ -10,55 +10,42 @@ Inv-loop d f k₀ k = k ≤ 9
 abbrev μ-loop : tie.MeasureT-loop
 μ-loop d f k₀ k = 9 - k
 
--- src/additions.rt:146:10
 slice-aggregate-text : tie.Need-slice-aggregate-text Inv-loop μ-loop
 slice-aggregate-text c = search tests
 
--- src/additions.rt:146:5
 text-requires : tie.Need-text-requires Inv-loop μ-loop
 text-requires c κs = search tests
 
--- src/additions.rt:147:5
 loop-holds : tie.Need-loop-holds Inv-loop μ-loop
 loop-holds c = search tests
 
--- src/additions.rt:148:16
 mul-number : tie.Need-mul-number Inv-loop μ-loop
 mul-number c = search tests
 
--- src/additions.rt:148:16
 array-read-number : tie.Need-array-read-number Inv-loop μ-loop
 array-read-number c = search tests
 
--- src/additions.rt:148:9
 number-requires : tie.Need-number-requires Inv-loop μ-loop
 number-requires c κs = search tests
 
--- src/additions.rt:147:9
 add-k : tie.Need-add-k Inv-loop μ-loop
 add-k c = search tests
 
--- src/additions.rt:147:5
 loop-less : tie.Need-loop-less Inv-loop μ-loop
 loop-less c = search tests
 
--- src/additions.rt:147:5
 loop-again : tie.Need-loop-again Inv-loop μ-loop
 loop-again c = search tests
 
--- src/additions.rt:150:29
 guarantee-of-requires : tie.Need-guarantee-of-requires Inv-loop μ-loop
 guarantee-of-requires c κs = search tests
 
--- src/additions.rt:150:9
 add-guarantee-requires : tie.Need-add-guarantee-requires Inv-loop μ-loop
 add-guarantee-requires c κs = search tests
 
--- src/additions.rt:151:5
 reply-requires : tie.Need-reply-requires Inv-loop μ-loop
 reply-requires c κs = search tests
 
--- src/additions.rt:145:1
 returns : tie.Need-returns Inv-loop μ-loop
 returns c = search tests
 

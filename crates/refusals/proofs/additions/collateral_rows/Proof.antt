@@ -10,39 +10,30 @@ Inv-loop d i₀ i = i ≤ 44
 abbrev μ-loop : tie.MeasureT-loop
 μ-loop d i₀ i = 44 - i
 
--- src/additions.rt:161:9
 new-deal-requires : tie.Need-new-deal-requires Inv-loop μ-loop
 new-deal-requires c κs = search tests
 
--- src/additions.rt:162:5
 loop-holds : tie.Need-loop-holds Inv-loop μ-loop
 loop-holds c = search tests
 
--- src/additions.rt:163:27
 mul-add-collateral : tie.Need-mul-add-collateral Inv-loop μ-loop
 mul-add-collateral c = search tests
 
--- src/additions.rt:163:27
 array-copy-out-add-collateral : tie.Need-array-copy-out-add-collateral Inv-loop μ-loop
 array-copy-out-add-collateral c = search tests
 
--- src/additions.rt:163:9
 add-collateral-requires : tie.Need-add-collateral-requires Inv-loop μ-loop
 add-collateral-requires c κs = search tests
 
--- src/additions.rt:162:9
 add-i : tie.Need-add-i Inv-loop μ-loop
 add-i c = search tests
 
--- src/additions.rt:162:5
 loop-less : tie.Need-loop-less Inv-loop μ-loop
 loop-less c = search tests
 
--- src/additions.rt:162:5
 loop-again : tie.Need-loop-again Inv-loop μ-loop
 loop-again c = search tests
 
--- src/additions.rt:160:1
 returns : tie.Need-returns Inv-loop μ-loop
 returns c = search tests
 

@@ -10,51 +10,39 @@ Inv-loop d₀ i₀ d i = i ≤ 17
 abbrev μ-loop : tie.MeasureT-loop
 μ-loop d₀ i₀ d i = 17 - i
 
--- src/additions.rt:182:9
 new-deal-requires : tie.Need-new-deal-requires Inv-loop μ-loop
 new-deal-requires c κs = search tests
 
--- src/additions.rt:184:5
 loop-holds : tie.Need-loop-holds Inv-loop μ-loop
 loop-holds c = search tests
 
--- src/additions.rt:185:49
 add-t4 : tie.Need-add-t4 Inv-loop μ-loop
 add-t4 c = search tests
 
--- src/additions.rt:185:9
 add-collateral-requires : tie.Need-add-collateral-requires Inv-loop μ-loop
 add-collateral-requires c κs = search tests
 
--- src/additions.rt:186:45
 add-t4-2 : tie.Need-add-t4-2 Inv-loop μ-loop
 add-t4-2 c = search tests
 
--- src/additions.rt:186:9
 add-guarantee-requires : tie.Need-add-guarantee-requires Inv-loop μ-loop
 add-guarantee-requires c κs = search tests
 
--- src/additions.rt:187:9
 add-i : tie.Need-add-i Inv-loop μ-loop
 add-i c = search tests
 
--- src/additions.rt:184:5
 loop-less : tie.Need-loop-less Inv-loop μ-loop
 loop-less c = search tests
 
--- src/additions.rt:184:5
 loop-again : tie.Need-loop-again Inv-loop μ-loop
 loop-again c = search tests
 
--- src/additions.rt:189:5
 add-collateral-requires-2 : tie.Need-add-collateral-requires-2 Inv-loop μ-loop
 add-collateral-requires-2 c κs = search tests
 
--- src/additions.rt:190:5
 add-guarantee-requires-2 : tie.Need-add-guarantee-requires-2 Inv-loop μ-loop
 add-guarantee-requires-2 c κs = search tests
 
--- src/additions.rt:181:1
 returns : tie.Need-returns Inv-loop μ-loop
 returns c = search tests
 

@@ -10,39 +10,30 @@ Inv-loop d i₀ i = i ≤ 31
 abbrev μ-loop : tie.MeasureT-loop
 μ-loop d i₀ i = 31 - i
 
--- src/additions.rt:168:9
 new-deal-requires : tie.Need-new-deal-requires Inv-loop μ-loop
 new-deal-requires c κs = search tests
 
--- src/additions.rt:169:5
 loop-holds : tie.Need-loop-holds Inv-loop μ-loop
 loop-holds c = search tests
 
--- src/additions.rt:170:26
 mul-add-guarantee : tie.Need-mul-add-guarantee Inv-loop μ-loop
 mul-add-guarantee c = search tests
 
--- src/additions.rt:170:26
 array-copy-out-add-guarantee : tie.Need-array-copy-out-add-guarantee Inv-loop μ-loop
 array-copy-out-add-guarantee c = search tests
 
--- src/additions.rt:170:9
 add-guarantee-requires : tie.Need-add-guarantee-requires Inv-loop μ-loop
 add-guarantee-requires c κs = search tests
 
--- src/additions.rt:169:9
 add-i : tie.Need-add-i Inv-loop μ-loop
 add-i c = search tests
 
--- src/additions.rt:169:5
 loop-less : tie.Need-loop-less Inv-loop μ-loop
 loop-less c = search tests
 
--- src/additions.rt:169:5
 loop-again : tie.Need-loop-again Inv-loop μ-loop
 loop-again c = search tests
 
--- src/additions.rt:167:1
 returns : tie.Need-returns Inv-loop μ-loop
 returns c = search tests
 

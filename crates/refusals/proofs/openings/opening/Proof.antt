@@ -10,99 +10,75 @@ Inv-loop i f k₀ k = k ≤ 10
 abbrev μ-loop : tie.MeasureT-loop
 μ-loop i f k₀ k = 10 - k
 
--- src/openings.rt:76:13
 mul-f : tie.Need-mul-f Inv-loop μ-loop
 mul-f c = search tests
 
--- src/openings.rt:76:13
 array-copy-out-f : tie.Need-array-copy-out-f Inv-loop μ-loop
 array-copy-out-f c = search tests
 
--- src/openings.rt:77:10
 slice-aggregate-text : tie.Need-slice-aggregate-text Inv-loop μ-loop
 slice-aggregate-text c = search tests
 
--- src/openings.rt:77:5
 text-requires : tie.Need-text-requires Inv-loop μ-loop
 text-requires c κs = search tests
 
--- src/openings.rt:78:5
 loop-holds : tie.Need-loop-holds Inv-loop μ-loop
 loop-holds c = search tests
 
--- src/openings.rt:79:16
 mul-number : tie.Need-mul-number Inv-loop μ-loop
 mul-number c = search tests
 
--- src/openings.rt:79:16
 array-read-number : tie.Need-array-read-number Inv-loop μ-loop
 array-read-number c = search tests
 
--- src/openings.rt:79:9
 number-requires : tie.Need-number-requires Inv-loop μ-loop
 number-requires c κs = search tests
 
--- src/openings.rt:78:9
 add-k : tie.Need-add-k Inv-loop μ-loop
 add-k c = search tests
 
--- src/openings.rt:78:5
 loop-less : tie.Need-loop-less Inv-loop μ-loop
 loop-less c = search tests
 
--- src/openings.rt:78:5
 loop-again : tie.Need-loop-again Inv-loop μ-loop
 loop-again c = search tests
 
--- src/openings.rt:81:22
 array-read-open : tie.Need-array-read-open Inv-loop μ-loop
 array-read-open c = search tests
 
--- src/openings.rt:81:28
 array-read-open-2 : tie.Need-array-read-open-2 Inv-loop μ-loop
 array-read-open-2 c = search tests
 
--- src/openings.rt:81:34
 array-read-open-3 : tie.Need-array-read-open-3 Inv-loop μ-loop
 array-read-open-3 c = search tests
 
--- src/openings.rt:81:40
 array-read-open-4 : tie.Need-array-read-open-4 Inv-loop μ-loop
 array-read-open-4 c = search tests
 
--- src/openings.rt:81:46
 array-read-open-5 : tie.Need-array-read-open-5 Inv-loop μ-loop
 array-read-open-5 c = search tests
 
--- src/openings.rt:81:52
 array-read-open-6 : tie.Need-array-read-open-6 Inv-loop μ-loop
 array-read-open-6 c = search tests
 
--- src/openings.rt:81:58
 array-read-open-7 : tie.Need-array-read-open-7 Inv-loop μ-loop
 array-read-open-7 c = search tests
 
--- src/openings.rt:81:64
 array-read-open-8 : tie.Need-array-read-open-8 Inv-loop μ-loop
 array-read-open-8 c = search tests
 
--- src/openings.rt:81:70
 array-read-open-9 : tie.Need-array-read-open-9 Inv-loop μ-loop
 array-read-open-9 c = search tests
 
--- src/openings.rt:81:76
 array-read-open-10 : tie.Need-array-read-open-10 Inv-loop μ-loop
 array-read-open-10 c = search tests
 
--- src/openings.rt:81:11
 open-requires : tie.Need-open-requires Inv-loop μ-loop
 open-requires c κs = search tests
 
--- src/openings.rt:81:5
 reply-requires : tie.Need-reply-requires Inv-loop μ-loop
 reply-requires c κs = search tests
 
--- src/openings.rt:73:1
 returns : tie.Need-returns Inv-loop μ-loop
 returns c = search tests
 

@@ -10,27 +10,21 @@ Inv-loop i₀ i = i ≤ 57
 abbrev μ-loop : tie.MeasureT-loop
 μ-loop i₀ i = 57 - i
 
--- src/openings.rt:85:5
 loop-holds : tie.Need-loop-holds Inv-loop μ-loop
 loop-holds c = search tests
 
--- src/openings.rt:86:9
 opening-requires : tie.Need-opening-requires Inv-loop μ-loop
 opening-requires c κs = search tests
 
--- src/openings.rt:85:9
 add-i : tie.Need-add-i Inv-loop μ-loop
 add-i c = search tests
 
--- src/openings.rt:85:5
 loop-less : tie.Need-loop-less Inv-loop μ-loop
 loop-less c = search tests
 
--- src/openings.rt:85:5
 loop-again : tie.Need-loop-again Inv-loop μ-loop
 loop-again c = search tests
 
--- src/openings.rt:84:1
 returns : tie.Need-returns Inv-loop μ-loop
 returns c = search tests
 

@@ -10,43 +10,33 @@ Inv-loop i₀ i = i ≤ 11
 abbrev μ-loop : tie.MeasureT-loop
 μ-loop i₀ i = 11 - i
 
--- src/records.rt:170:10
 slice-aggregate-text : tie.Need-slice-aggregate-text Inv-loop μ-loop
 slice-aggregate-text c = search tests
 
--- src/records.rt:170:5
 text-requires : tie.Need-text-requires Inv-loop μ-loop
 text-requires c κs = search tests
 
--- src/records.rt:171:5
 loop-holds : tie.Need-loop-holds Inv-loop μ-loop
 loop-holds c = search tests
 
--- src/records.rt:172:29
 mul-collateral-field : tie.Need-mul-collateral-field Inv-loop μ-loop
 mul-collateral-field c = search tests
 
--- src/records.rt:172:29
 array-read-collateral-field : tie.Need-array-read-collateral-field Inv-loop μ-loop
 array-read-collateral-field c = search tests
 
--- src/records.rt:172:9
 collateral-field-requires : tie.Need-collateral-field-requires Inv-loop μ-loop
 collateral-field-requires c κs = search tests
 
--- src/records.rt:171:9
 add-i : tie.Need-add-i Inv-loop μ-loop
 add-i c = search tests
 
--- src/records.rt:171:5
 loop-less : tie.Need-loop-less Inv-loop μ-loop
 loop-less c = search tests
 
--- src/records.rt:171:5
 loop-again : tie.Need-loop-again Inv-loop μ-loop
 loop-again c = search tests
 
--- src/records.rt:169:1
 returns : tie.Need-returns Inv-loop μ-loop
 returns c = search tests
 

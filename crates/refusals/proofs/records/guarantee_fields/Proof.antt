@@ -10,43 +10,33 @@ Inv-loop i₀ i = i ≤ 9
 abbrev μ-loop : tie.MeasureT-loop
 μ-loop i₀ i = 9 - i
 
--- src/records.rt:177:10
 slice-aggregate-text : tie.Need-slice-aggregate-text Inv-loop μ-loop
 slice-aggregate-text c = search tests
 
--- src/records.rt:177:5
 text-requires : tie.Need-text-requires Inv-loop μ-loop
 text-requires c κs = search tests
 
--- src/records.rt:178:5
 loop-holds : tie.Need-loop-holds Inv-loop μ-loop
 loop-holds c = search tests
 
--- src/records.rt:179:28
 mul-guarantee-field : tie.Need-mul-guarantee-field Inv-loop μ-loop
 mul-guarantee-field c = search tests
 
--- src/records.rt:179:28
 array-read-guarantee-field : tie.Need-array-read-guarantee-field Inv-loop μ-loop
 array-read-guarantee-field c = search tests
 
--- src/records.rt:179:9
 guarantee-field-requires : tie.Need-guarantee-field-requires Inv-loop μ-loop
 guarantee-field-requires c κs = search tests
 
--- src/records.rt:178:9
 add-i : tie.Need-add-i Inv-loop μ-loop
 add-i c = search tests
 
--- src/records.rt:178:5
 loop-less : tie.Need-loop-less Inv-loop μ-loop
 loop-less c = search tests
 
--- src/records.rt:178:5
 loop-again : tie.Need-loop-again Inv-loop μ-loop
 loop-again c = search tests
 
--- src/records.rt:176:1
 returns : tie.Need-returns Inv-loop μ-loop
 returns c = search tests
 

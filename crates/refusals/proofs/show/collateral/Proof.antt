@@ -10,43 +10,33 @@ Inv-loop list items h₀ i₀ h i = i ≤ 16
 abbrev μ-loop : tie.MeasureT-loop
 μ-loop list items h₀ i₀ h i = 16 - i
 
--- src/show.rt:43:5
 loop-holds : tie.Need-loop-holds Inv-loop μ-loop
 loop-holds c = search tests
 
--- src/show.rt:44:20
 mul-item : tie.Need-mul-item Inv-loop μ-loop
 mul-item c = search tests
 
--- src/show.rt:44:20
 array-copy-out-item : tie.Need-array-copy-out-item Inv-loop μ-loop
 array-copy-out-item c = search tests
 
--- src/show.rt:45:9
 with-collateral-requires : tie.Need-with-collateral-requires Inv-loop μ-loop
 with-collateral-requires c κs = search tests
 
--- src/show.rt:43:9
 add-i : tie.Need-add-i Inv-loop μ-loop
 add-i c = search tests
 
--- src/show.rt:43:5
 loop-less : tie.Need-loop-less Inv-loop μ-loop
 loop-less c = search tests
 
--- src/show.rt:43:5
 loop-again : tie.Need-loop-again Inv-loop μ-loop
 loop-again c = search tests
 
--- src/show.rt:47:5
 number-requires : tie.Need-number-requires Inv-loop μ-loop
 number-requires c κs = search tests
 
--- src/show.rt:48:5
 number-requires-2 : tie.Need-number-requires-2 Inv-loop μ-loop
 number-requires-2 c κs = search tests
 
--- src/show.rt:40:1
 returns : tie.Need-returns Inv-loop μ-loop
 returns c = search tests
 

@@ -10,27 +10,21 @@ Inv-loop goods₀ goods = goods ≤ 11
 abbrev μ-loop : tie.MeasureT-loop
 μ-loop goods₀ goods = 11 - goods
 
--- src/sweeps.rt:69:5
 loop-holds : tie.Need-loop-holds Inv-loop μ-loop
 loop-holds c = search tests
 
--- src/sweeps.rt:70:9
 goods-line-requires : tie.Need-goods-line-requires Inv-loop μ-loop
 goods-line-requires c κs = search tests
 
--- src/sweeps.rt:69:9
 add-goods : tie.Need-add-goods Inv-loop μ-loop
 add-goods c = search tests
 
--- src/sweeps.rt:69:5
 loop-less : tie.Need-loop-less Inv-loop μ-loop
 loop-less c = search tests
 
--- src/sweeps.rt:69:5
 loop-again : tie.Need-loop-again Inv-loop μ-loop
 loop-again c = search tests
 
--- src/sweeps.rt:68:1
 returns : tie.Need-returns Inv-loop μ-loop
 returns c = search tests
 

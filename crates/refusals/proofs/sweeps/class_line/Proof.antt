@@ -10,67 +10,51 @@ Inv-loop class step₀ t5 step = step ≤ 8
 abbrev μ-loop : tie.MeasureT-loop
 μ-loop class step₀ t5 step = 8 - step
 
--- src/sweeps.rt:37:10
 slice-aggregate-text : tie.Need-slice-aggregate-text Inv-loop μ-loop
 slice-aggregate-text c = search tests
 
--- src/sweeps.rt:37:5
 text-requires : tie.Need-text-requires Inv-loop μ-loop
 text-requires c κs = search tests
 
--- src/sweeps.rt:38:5
 number-requires : tie.Need-number-requires Inv-loop μ-loop
 number-requires c κs = search tests
 
--- src/sweeps.rt:39:10
 slice-aggregate-text-2 : tie.Need-slice-aggregate-text-2 Inv-loop μ-loop
 slice-aggregate-text-2 c = search tests
 
--- src/sweeps.rt:39:5
 text-requires-2 : tie.Need-text-requires-2 Inv-loop μ-loop
 text-requires-2 c κs = search tests
 
--- src/sweeps.rt:40:5
 loop-holds : tie.Need-loop-holds Inv-loop μ-loop
 loop-holds c = search tests
 
--- src/sweeps.rt:41:16
 opened-requires : tie.Need-opened-requires Inv-loop μ-loop
 opened-requires c κs = search tests
 
--- src/sweeps.rt:41:9
 number-requires-2 : tie.Need-number-requires-2 Inv-loop μ-loop
 number-requires-2 c κs = search tests
 
--- src/sweeps.rt:42:16
 provided-requires : tie.Need-provided-requires Inv-loop μ-loop
 provided-requires c κs = search tests
 
--- src/sweeps.rt:42:9
 number-requires-3 : tie.Need-number-requires-3 Inv-loop μ-loop
 number-requires-3 c κs = search tests
 
--- src/sweeps.rt:40:9
 add-step : tie.Need-add-step Inv-loop μ-loop
 add-step c = search tests
 
--- src/sweeps.rt:40:5
 loop-less : tie.Need-loop-less Inv-loop μ-loop
 loop-less c = search tests
 
--- src/sweeps.rt:40:5
 loop-again : tie.Need-loop-again Inv-loop μ-loop
 loop-again c = search tests
 
--- src/sweeps.rt:44:10
 slice-aggregate-text-3 : tie.Need-slice-aggregate-text-3 Inv-loop μ-loop
 slice-aggregate-text-3 c = search tests
 
--- src/sweeps.rt:44:5
 text-requires-3 : tie.Need-text-requires-3 Inv-loop μ-loop
 text-requires-3 c κs = search tests
 
--- src/sweeps.rt:36:1
 returns : tie.Need-returns Inv-loop μ-loop
 returns c = search tests
 

@@ -10,27 +10,21 @@ Inv-loop class₀ class = class ≤ 6
 abbrev μ-loop : tie.MeasureT-loop
 μ-loop class₀ class = 6 - class
 
--- src/sweeps.rt:63:5
 loop-holds : tie.Need-loop-holds Inv-loop μ-loop
 loop-holds c = search tests
 
--- src/sweeps.rt:64:9
 class-line-requires : tie.Need-class-line-requires Inv-loop μ-loop
 class-line-requires c κs = search tests
 
--- src/sweeps.rt:63:9
 add-class : tie.Need-add-class Inv-loop μ-loop
 add-class c = search tests
 
--- src/sweeps.rt:63:5
 loop-less : tie.Need-loop-less Inv-loop μ-loop
 loop-less c = search tests
 
--- src/sweeps.rt:63:5
 loop-again : tie.Need-loop-again Inv-loop μ-loop
 loop-again c = search tests
 
--- src/sweeps.rt:62:1
 returns : tie.Need-returns Inv-loop μ-loop
 returns c = search tests
 

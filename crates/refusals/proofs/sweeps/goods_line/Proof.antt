@@ -10,91 +10,69 @@ Inv-loop goods step₀ t5 step = step ≤ 8
 abbrev μ-loop : tie.MeasureT-loop
 μ-loop goods step₀ t5 step = 8 - step
 
--- src/sweeps.rt:49:10
 slice-aggregate-text : tie.Need-slice-aggregate-text Inv-loop μ-loop
 slice-aggregate-text c = search tests
 
--- src/sweeps.rt:49:5
 text-requires : tie.Need-text-requires Inv-loop μ-loop
 text-requires c κs = search tests
 
--- src/sweeps.rt:50:5
 number-requires : tie.Need-number-requires Inv-loop μ-loop
 number-requires c κs = search tests
 
--- src/sweeps.rt:51:10
 slice-aggregate-text-2 : tie.Need-slice-aggregate-text-2 Inv-loop μ-loop
 slice-aggregate-text-2 c = search tests
 
--- src/sweeps.rt:51:5
 text-requires-2 : tie.Need-text-requires-2 Inv-loop μ-loop
 text-requires-2 c κs = search tests
 
--- src/sweeps.rt:52:5
 loop-holds : tie.Need-loop-holds Inv-loop μ-loop
 loop-holds c = search tests
 
--- src/sweeps.rt:53:16
 opened-requires : tie.Need-opened-requires Inv-loop μ-loop
 opened-requires c κs = search tests
 
--- src/sweeps.rt:53:9
 number-requires-2 : tie.Need-number-requires-2 Inv-loop μ-loop
 number-requires-2 c κs = search tests
 
--- src/sweeps.rt:54:16
 opened-requires-2 : tie.Need-opened-requires-2 Inv-loop μ-loop
 opened-requires-2 c κs = search tests
 
--- src/sweeps.rt:54:9
 number-requires-3 : tie.Need-number-requires-3 Inv-loop μ-loop
 number-requires-3 c κs = search tests
 
--- src/sweeps.rt:55:16
 pledged-requires : tie.Need-pledged-requires Inv-loop μ-loop
 pledged-requires c κs = search tests
 
--- src/sweeps.rt:55:9
 number-requires-4 : tie.Need-number-requires-4 Inv-loop μ-loop
 number-requires-4 c κs = search tests
 
--- src/sweeps.rt:56:16
 pledged-requires-2 : tie.Need-pledged-requires-2 Inv-loop μ-loop
 pledged-requires-2 c κs = search tests
 
--- src/sweeps.rt:56:9
 number-requires-5 : tie.Need-number-requires-5 Inv-loop μ-loop
 number-requires-5 c κs = search tests
 
--- src/sweeps.rt:57:16
 pledged-requires-3 : tie.Need-pledged-requires-3 Inv-loop μ-loop
 pledged-requires-3 c κs = search tests
 
--- src/sweeps.rt:57:9
 number-requires-6 : tie.Need-number-requires-6 Inv-loop μ-loop
 number-requires-6 c κs = search tests
 
--- src/sweeps.rt:52:9
 add-step : tie.Need-add-step Inv-loop μ-loop
 add-step c = search tests
 
--- src/sweeps.rt:52:5
 loop-less : tie.Need-loop-less Inv-loop μ-loop
 loop-less c = search tests
 
--- src/sweeps.rt:52:5
 loop-again : tie.Need-loop-again Inv-loop μ-loop
 loop-again c = search tests
 
--- src/sweeps.rt:59:10
 slice-aggregate-text-3 : tie.Need-slice-aggregate-text-3 Inv-loop μ-loop
 slice-aggregate-text-3 c = search tests
 
--- src/sweeps.rt:59:5
 text-requires-3 : tie.Need-text-requires-3 Inv-loop μ-loop
 text-requires-3 c κs = search tests
 
--- src/sweeps.rt:48:1
 returns : tie.Need-returns Inv-loop μ-loop
 returns c = search tests
 

@@ -10,47 +10,36 @@ Inv-loop kind₀ t3 kind = kind ≤ 5
 abbrev μ-loop : tie.MeasureT-loop
 μ-loop kind₀ t3 kind = 5 - kind
 
--- src/sweeps.rt:75:10
 slice-aggregate-text : tie.Need-slice-aggregate-text Inv-loop μ-loop
 slice-aggregate-text c = search tests
 
--- src/sweeps.rt:75:5
 text-requires : tie.Need-text-requires Inv-loop μ-loop
 text-requires c κs = search tests
 
--- src/sweeps.rt:76:5
 loop-holds : tie.Need-loop-holds Inv-loop μ-loop
 loop-holds c = search tests
 
--- src/sweeps.rt:77:16
 opened-requires : tie.Need-opened-requires Inv-loop μ-loop
 opened-requires c κs = search tests
 
--- src/sweeps.rt:77:9
 number-requires : tie.Need-number-requires Inv-loop μ-loop
 number-requires c κs = search tests
 
--- src/sweeps.rt:76:9
 add-kind : tie.Need-add-kind Inv-loop μ-loop
 add-kind c = search tests
 
--- src/sweeps.rt:76:5
 loop-less : tie.Need-loop-less Inv-loop μ-loop
 loop-less c = search tests
 
--- src/sweeps.rt:76:5
 loop-again : tie.Need-loop-again Inv-loop μ-loop
 loop-again c = search tests
 
--- src/sweeps.rt:79:10
 slice-aggregate-text-2 : tie.Need-slice-aggregate-text-2 Inv-loop μ-loop
 slice-aggregate-text-2 c = search tests
 
--- src/sweeps.rt:79:5
 text-requires-2 : tie.Need-text-requires-2 Inv-loop μ-loop
 text-requires-2 c κs = search tests
 
--- src/sweeps.rt:74:1
 returns : tie.Need-returns Inv-loop μ-loop
 returns c = search tests
 

@@ -2,11 +2,9 @@
 use Rattle.deal.proofs.answer.Answer.is_accepted.Statement.{statement}
 use Rattle.deal.proofs.answer.Answer.is_accepted.Tie as tie
 
--- src/answer.rt:41:9
 number-requires : tie.Need-number-requires
 number-requires c κs = tt
 
--- src/answer.rt:38:5
 returns : tie.Need-returns
 returns c = rw (c .number .ensures)
 

@@ -4,92 +4,72 @@ use Rattle.deal.specs.Answers.{answerNumber}
 use Rattle.deal.proofs.answer.Answer.number.Statement.{statement}
 use Rattle.deal.proofs.answer.Answer.number.Tie as tie
 
--- src/answer.rt:24:33
 enum-told : tie.Need-enum-told
 enum-told c = search tests
 
--- src/answer.rt:25:41
 enum-told-2 : tie.Need-enum-told-2
 enum-told-2 c = search tests
 
--- src/answer.rt:26:36
 enum-told-3 : tie.Need-enum-told-3
 enum-told-3 c = search tests
 
--- src/answer.rt:27:34
 enum-told-4 : tie.Need-enum-told-4
 enum-told-4 c = search tests
 
--- src/answer.rt:28:38
 enum-told-5 : tie.Need-enum-told-5
 enum-told-5 c = search tests
 
--- src/answer.rt:29:37
 enum-told-6 : tie.Need-enum-told-6
 enum-told-6 c = search tests
 
--- src/answer.rt:30:33
 enum-told-7 : tie.Need-enum-told-7
 enum-told-7 c = search tests
 
--- src/answer.rt:31:46
 enum-told-8 : tie.Need-enum-told-8
 enum-told-8 c = search tests
 
--- src/answer.rt:32:39
 enum-told-9 : tie.Need-enum-told-9
 enum-told-9 c = search tests
 
--- src/answer.rt:33:42
 enum-told-10 : tie.Need-enum-told-10
 enum-told-10 c = search tests
 
--- src/answer.rt:20:5
 returns : tie.Need-returns
 unfolding answerNumber
 returns c = search tests
 
--- src/answer.rt:20:5
 returns-2 : tie.Need-returns-2
 unfolding answerNumber
 returns-2 c = search tests
 
--- src/answer.rt:20:5
 returns-3 : tie.Need-returns-3
 unfolding answerNumber
 returns-3 c = search tests
 
--- src/answer.rt:20:5
 returns-4 : tie.Need-returns-4
 unfolding answerNumber
 returns-4 c = search tests
 
--- src/answer.rt:20:5
 returns-5 : tie.Need-returns-5
 unfolding answerNumber
 returns-5 c = search tests
 
--- src/answer.rt:20:5
 returns-6 : tie.Need-returns-6
 unfolding answerNumber
 returns-6 c = search tests
 
--- src/answer.rt:20:5
 returns-7 : tie.Need-returns-7
 unfolding answerNumber
 returns-7 c = search tests
 
--- src/answer.rt:20:5
 returns-8 : tie.Need-returns-8
 unfolding answerNumber
 returns-8 c = search tests
 
--- src/answer.rt:20:5
 returns-9 : tie.Need-returns-9
 unfolding answerNumber
 returns-9 c = search tests
 
--- src/answer.rt:20:5
 returns-10 : tie.Need-returns-10
 unfolding answerNumber
 returns-10 c = search tests

@@ -4,20 +4,16 @@ use Rattle.deal.specs.Assets.{lifeAllowed}
 use Rattle.deal.proofs.asset.Asset.life_allowed.Statement.{statement}
 use Rattle.deal.proofs.asset.Asset.life_allowed.Tie as tie
 
--- src/asset.rt:44:12
 is-debt-requires : tie.Need-is-debt-requires
 is-debt-requires c κs = tt
 
--- src/asset.rt:45:13
 days-allowed-requires : tie.Need-days-allowed-requires
 days-allowed-requires c κs = tt
 
--- src/asset.rt:45:13
 returns : tie.Need-returns
 unfolding lifeAllowed
 returns c = search (tests, told)
 
--- src/asset.rt:41:5
 returns-2 : tie.Need-returns-2
 unfolding lifeAllowed
 returns-2 c = search (tests, told)

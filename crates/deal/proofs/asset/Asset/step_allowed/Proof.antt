@@ -4,20 +4,16 @@ use Rattle.deal.specs.Assets.{assetStepAllowed}
 use Rattle.deal.proofs.asset.Asset.step_allowed.Statement.{statement}
 use Rattle.deal.proofs.asset.Asset.step_allowed.Tie as tie
 
--- src/asset.rt:35:12
 is-debt-requires : tie.Need-is-debt-requires
 is-debt-requires c κs = tt
 
--- src/asset.rt:36:13
 step-allowed-requires : tie.Need-step-allowed-requires
 step-allowed-requires c κs = tt
 
--- src/asset.rt:36:13
 returns : tie.Need-returns
 unfolding assetStepAllowed
 returns c = search (tests, told)
 
--- src/asset.rt:32:5
 returns-2 : tie.Need-returns-2
 unfolding assetStepAllowed
 returns-2 c = search (tests, told)

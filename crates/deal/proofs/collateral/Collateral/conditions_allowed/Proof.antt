@@ -3,23 +3,18 @@ use Rattle.base.proofs.Tests.{and-same}
 use Rattle.deal.proofs.collateral.Collateral.conditions_allowed.Statement.{statement}
 use Rattle.deal.proofs.collateral.Collateral.conditions_allowed.Tie as tie
 
--- src/collateral.rt:64:9
 condition-allowed-requires : tie.Need-condition-allowed-requires
 condition-allowed-requires c κs = tt
 
--- src/collateral.rt:65:15
 condition-allowed-requires-2 : tie.Need-condition-allowed-requires-2
 condition-allowed-requires-2 c κs = tt
 
--- src/collateral.rt:66:15
 condition-allowed-requires-3 : tie.Need-condition-allowed-requires-3
 condition-allowed-requires-3 c κs = tt
 
--- src/collateral.rt:67:15
 condition-allowed-requires-4 : tie.Need-condition-allowed-requires-4
 condition-allowed-requires-4 c κs = tt
 
--- src/collateral.rt:61:5
 returns : tie.Need-returns
 returns c = search and-same
 

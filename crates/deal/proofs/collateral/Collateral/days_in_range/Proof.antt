@@ -3,19 +3,15 @@ use Rattle.base.proofs.Tests.{and-same}
 use Rattle.deal.proofs.collateral.Collateral.days_in_range.Statement.{statement}
 use Rattle.deal.proofs.collateral.Collateral.days_in_range.Tie as tie
 
--- src/collateral.rt:58:9
 days-allowed-requires : tie.Need-days-allowed-requires
 days-allowed-requires c κs = tt
 
--- src/collateral.rt:58:39
 days-allowed-requires-2 : tie.Need-days-allowed-requires-2
 days-allowed-requires-2 c κs = tt
 
--- src/collateral.rt:58:69
 life-allowed-requires : tie.Need-life-allowed-requires
 life-allowed-requires c κs = tt
 
--- src/collateral.rt:54:5
 returns : tie.Need-returns
 returns c = search and-same
 

@@ -1,10 +1,9 @@
 -- `deal::deal::Deal::add_collateral` meets its contract: 40 first, then its list decides. Assumes nothing.
-use mathlib.Core.Path.{_≡_, refl, sym, _∙_}
-use mathlib.Core.Bool.{true}
+use mathlib.Core.Path.{refl, sym, _∙_}
 use Rattle.base.proofs.FirstMet.{met-first}
 use Rattle.base.proofs.Tests.{told-not, told-not-true}
 use Rattle.deal.specs.Answers.{answerNumber}
-use Rattle.deal.specs.Deals.{recordAllowed, addCollateralTests, addCollateralRefusal}
+use Rattle.deal.specs.Deals.{addCollateralTests, addCollateralRefusal}
 use Rattle.deal.proofs.Deals.{collateral-refused, collateral-by-list, collateral-with}
 use Rattle.deal.proofs.deal.Deal.add_collateral.Statement.{statement}
 use Rattle.deal.proofs.deal.Deal.add_collateral.Tie as tie

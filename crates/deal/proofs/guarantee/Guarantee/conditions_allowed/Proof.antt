@@ -3,19 +3,15 @@ use Rattle.base.proofs.Tests.{and-same}
 use Rattle.deal.proofs.guarantee.Guarantee.conditions_allowed.Statement.{statement}
 use Rattle.deal.proofs.guarantee.Guarantee.conditions_allowed.Tie as tie
 
--- src/guarantee.rt:55:9
 condition-allowed-requires : tie.Need-condition-allowed-requires
 condition-allowed-requires c κs = tt
 
--- src/guarantee.rt:56:15
 condition-allowed-requires-2 : tie.Need-condition-allowed-requires-2
 condition-allowed-requires-2 c κs = tt
 
--- src/guarantee.rt:57:15
 condition-allowed-requires-3 : tie.Need-condition-allowed-requires-3
 condition-allowed-requires-3 c κs = tt
 
--- src/guarantee.rt:52:5
 returns : tie.Need-returns
 returns c = search and-same
 

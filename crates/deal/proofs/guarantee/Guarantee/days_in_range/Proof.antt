@@ -3,15 +3,12 @@ use Rattle.base.proofs.Tests.{and-same}
 use Rattle.deal.proofs.guarantee.Guarantee.days_in_range.Statement.{statement}
 use Rattle.deal.proofs.guarantee.Guarantee.days_in_range.Tie as tie
 
--- src/guarantee.rt:49:9
 days-allowed-requires : tie.Need-days-allowed-requires
 days-allowed-requires c κs = tt
 
--- src/guarantee.rt:49:39
 days-allowed-requires-2 : tie.Need-days-allowed-requires-2
 days-allowed-requires-2 c κs = tt
 
--- src/guarantee.rt:46:5
 returns : tie.Need-returns
 returns c = search and-same
 

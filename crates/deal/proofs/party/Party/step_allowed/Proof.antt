@@ -4,16 +4,13 @@ use Rattle.base.proofs.Tests.{tests, told}
 use Rattle.deal.proofs.party.Party.step_allowed.Statement.{statement}
 use Rattle.deal.proofs.party.Party.step_allowed.Tie as tie
 
--- src/party.rt:34:13
 returns : tie.Need-returns
 unfolding partyStepAllowed
 returns c = search (tests, told)
 
--- src/party.rt:36:9
 step-allowed-requires : tie.Need-step-allowed-requires
 step-allowed-requires c κs = tt
 
--- src/party.rt:30:5
 returns-2 : tie.Need-returns-2
 unfolding partyStepAllowed
 returns-2 c = search (tests, told)

@@ -6,7 +6,7 @@ use borrow.Author.Tests.{le-leb, lt-leb}
 use lib.ListN.{drop}
 use Rattle.base.specs.FirstMet.{firstMet, firstOr}
 use Rattle.base.proofs.FirstMet.{met-first, not-met}
-use Rattle.base.proofs.Tests.{tests, told-not, not-true, not-false}
+use Rattle.base.proofs.Tests.{told-not, not-true, not-false}
 use Rattle.deal.specs.Answers.{answerNumber}
 use Rattle.deal.specs.Ranges.{amountLimit}
 use Rattle.deal.specs.Terms.{termsTests, termsRefusal}

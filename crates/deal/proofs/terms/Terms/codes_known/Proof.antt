@@ -3,19 +3,15 @@ use Rattle.base.proofs.Tests.{and-same}
 use Rattle.deal.proofs.terms.Terms.codes_known.Statement.{statement}
 use Rattle.deal.proofs.terms.Terms.codes_known.Tie as tie
 
--- src/terms.rt:59:9
 counterparty-known-requires : tie.Need-counterparty-known-requires
 counterparty-known-requires c κs = tt
 
--- src/terms.rt:59:45
 kind-known-requires : tie.Need-kind-known-requires
 kind-known-requires c κs = tt
 
--- src/terms.rt:59:69
 goods-known-requires : tie.Need-goods-known-requires
 goods-known-requires c κs = tt
 
--- src/terms.rt:54:5
 returns : tie.Need-returns
 returns c = search and-same
 

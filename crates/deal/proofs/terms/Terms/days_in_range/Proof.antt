@@ -3,19 +3,15 @@ use Rattle.base.proofs.Tests.{and-same}
 use Rattle.deal.proofs.terms.Terms.days_in_range.Statement.{statement}
 use Rattle.deal.proofs.terms.Terms.days_in_range.Tie as tie
 
--- src/terms.rt:76:9
 interval-allowed-requires : tie.Need-interval-allowed-requires
 interval-allowed-requires c κs = tt
 
--- src/terms.rt:76:43
 days-allowed-requires : tie.Need-days-allowed-requires
 days-allowed-requires c κs = tt
 
--- src/terms.rt:76:69
 life-allowed-requires : tie.Need-life-allowed-requires
 life-allowed-requires c κs = tt
 
--- src/terms.rt:72:5
 returns : tie.Need-returns
 returns c = search and-same
 
