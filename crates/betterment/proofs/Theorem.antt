@@ -17,7 +17,7 @@ use Rattle.relief.specs.Report.{reportUnder, reportOf}
 use Rattle.relief.proofs.Amounts.{no-higher-than-without}
 use Rattle.relief.proofs.Reports.{weighted-of}
 use Rattle.deal.specs.Views.{View, viewOf, acceptedView, recordOf}
-use Rattle.betterment.specs.Betterments.{BetterTerms, Better, Betterments, NeverRaised}
+use Rattle.betterment.specs.Betterments.{BetterTerms, Better, Betterments, NeverRaised, NeverRaisedUnder}
 use Rattle.deal.proofs.Views.{accepted-view, can-be-made}
 use Rattle.betterment.proofs.Steps.{better-lowers}
 
@@ -89,13 +89,12 @@ module _ {table : Table} (laws : TableLaws table) where
       )
 
   -- DEMAND 3 UNDER ANY TABLE WITH THE LAWS
-  pub betterments-under : NeverRaised table
+  pub betterments-under : NeverRaisedUnder table
   betterments-under d e a l = (no-higher-than-before a l, no-higher-than-unprotected e (reached-accepted a l))
 
 -- DEMAND 3: BETTERMENTS NEVER RAISE THE WEIGHTED AMOUNT. After any list of them the amount that reporting gives is no higher than before,
 -- and no higher than that of the deal as it then stands, without protection
-pub betterments-never-raise : (d e : Deal) → accepted d ≡ true → Betterments d e →
-    (reportOf e .weighted ≤ reportOf d .weighted) × (reportOf e .weighted ≤ reportOf (withoutProtection (e .terms)) .weighted)
+pub betterments-never-raise : NeverRaised
 betterments-never-raise d e a l =
     let under = betterments-under (lawful (d .terms)) d e a l in
     let same = sym (same-table l) in (

@@ -9,7 +9,7 @@ use Rattle.deal.specs.declared.terms.Terms.{Terms}
 use Rattle.deal.specs.declared.collateral.Collateral.{Collateral}
 use Rattle.deal.specs.declared.guarantee.Guarantee.{Guarantee}
 use Rattle.deal.specs.declared.deal.Deal.{Deal}
-use Rattle.relief.specs.Report.{reportUnder}
+use Rattle.relief.specs.Report.{reportUnder, reportOf}
 use Rattle.betterment.specs.Changes.{collateralAmount, collateralStep, collateralCurrency, collateralResidual, collateralOriginal, collateralLawful, collateralUnrelated, collateralUnreflected, collateralListed, guaranteeAmount, guaranteeStep, guaranteeCurrency, guaranteeResidual, guaranteeOriginal, guaranteeLawful, guaranteeDirect, guaranteeUnreflected, termsInterval, termsLentStep}
 use Rattle.deal.specs.Views.{View, viewOf, acceptedView}
 
@@ -69,7 +69,7 @@ pub data Better : View → View → Type 0 where
   more-guarantees : {t : Terms} {cs : List Collateral} {gs gs′ : List Guarantee} → OneMore gs gs′ →
       Better (record { terms = t; collateral = cs; guarantees = gs }) (record { terms = t; collateral = cs; guarantees = gs′ })
 
--- A LIST OF BETTERMENTS, from an accepted deal before it to the deal after it. "One is refused where reporting would refuse the new deal, one more
+-- A LIST OF BETTERMENTS, from the deal before it to the deal after it. "One is refused where reporting would refuse the new deal, one more
 -- item on a full list included; the deal then stays as it was and the next one follows. Each meets the deal that the one before it left"
 pub data Betterments : Deal → Deal → Type 0 where
   no-more : {d : Deal} → Betterments d d
@@ -78,13 +78,19 @@ pub data Betterments : Deal → Deal → Type 0 where
   made : {d d′ e : Deal} → Better (viewOf d) (viewOf d′) → accepted d′ ≡ true → Betterments d′ e → Betterments d e
   refused : {d e : Deal} (proposed : View) → Better (viewOf d) proposed → acceptedView proposed ≡ false → Betterments d e → Betterments d e
 
--- "It compares weighted amounts that reporting gives: the one after the list with the one before it, and with that of the deal as it then
--- stands, without protection"
-abbrev pub NoHigher : Table → Deal → Deal → Type 0
-NoHigher table before after =
-    (reportUnder table after .weighted ≤ reportUnder table before .weighted)
-    × (reportUnder table after .weighted ≤ reportUnder table (withoutProtection (after .terms)) .weighted)
+-- "It compares weighted amounts ..: the one after the list with the one before it, and with that of the deal as it then stands, without
+-- protection"
+abbrev pub NoHigher : (Deal → ℕ) → Deal → Deal → Type 0
+NoHigher amount before after = (amount after ≤ amount before) × (amount after ≤ amount (withoutProtection (after .terms)))
 
--- DEMAND 3, "a single claim about the whole list", under a table
-abbrev pub NeverRaised : Table → Type 0
-NeverRaised table = (before after : Deal) → accepted before ≡ true → Betterments before after → NoHigher table before after
+-- "a single claim about the whole list"
+abbrev pub NeverRaisedBy : (Deal → ℕ) → Type 0
+NeverRaisedBy amount = (before after : Deal) → accepted before ≡ true → Betterments before after → NoHigher amount before after
+
+-- under one table for all deals, whichever it is
+abbrev pub NeverRaisedUnder : Table → Type 0
+NeverRaisedUnder table = NeverRaisedBy (λ d. reportUnder table d .weighted)
+
+-- DEMAND 3, of the "weighted amounts that reporting gives"
+abbrev pub NeverRaised : Type 0
+NeverRaised = NeverRaisedBy (λ d. reportOf d .weighted)

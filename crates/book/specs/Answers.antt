@@ -56,8 +56,8 @@ refusedAt refusal number = refusal ∷ number ∷ 0 ∷ []
 abbrev pub figuresOf : Deal → List ℕ
 figuresOf d = 0 ∷ reportOf d .exposure ∷ reportOf d .weighted ∷ []
 
--- of a deal that the line with this number opened: where reporting refuses, that is said of this line. A deal of a book is always an accepted
--- one (`each-answered`), so that no zeros beside a 40 stand for figures
+-- of a deal that the line with this number opened: where reporting refuses, that is said of this line, and never happens in a book
+-- (`each-answered`)
 unfoldable pub reported : ℕ → Deal → List ℕ
 reported opening d = if eqb (reportRefusal d) 0 then figuresOf d else refusedAt (reportRefusal d) opening
 

@@ -5,7 +5,7 @@ use text::same;
 
 // What the first line says.
 pub enum Heading {
-    // The number in its second field.
+    // The number in its second field, of which there is one.
     Edition(u64),
     Wrong,
 }

@@ -74,7 +74,7 @@ openedDeal t = if eqb (termsRefusal t) 0 then withoutProtection t else withoutPr
 unfoldable pub recordAllowed : Deal → Bool
 recordAllowed d = eqb (termsRefusal (d .terms)) 0 && collateralListAllowed (d .collateral) && guaranteeListAllowed (d .guarantees)
 
--- what reporting accepts. "An accepted deal is a record on which reporting's 40 does not fall, however it came about" (01: Betterments)
+-- what reporting accepts: the same. "An accepted deal is a record on which reporting's 40 does not fall, however it came about" (01: Betterments)
 unfoldable pub accepted : Deal → Bool
 accepted d = recordAllowed d
 

@@ -73,7 +73,8 @@ appendCollateral l c = record { items = set (l .items) (l .count) c; count = l .
 abbrev pub appendGuarantee : GuaranteeList → Guarantee → GuaranteeList
 appendGuarantee l g = record { items = set (l .items) (l .count) g; count = l .count + 1 }
 
--- ADDING TO A LIST: "6 that list is full; then 1, 2, 3, 4, 5 as above on the item's fields; 7 ..; 8 .."
+-- What adding does to one list, behind its 40, which is a test of the whole record (specs/Deals): "6 that list is full; then 1, 2, 3, 4, 5
+-- as above on the item's fields; 7 ..; 8 .."
 unfoldable pub collateralListTests : CollateralList → Collateral → List (Test ℕ)
 collateralListTests l c = 6 when leb listLimit (l .count) ∷ collateralTests c
 

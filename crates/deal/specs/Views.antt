@@ -1,5 +1,5 @@
 -- A deal by its fields and items. 01: Betterments, "Its items are the counted ones in order of adding; unchanged is said of its fields
--- and items, not of how a record holds them". Reports, amounts and betterments are said of views
+-- and items, not of how a record holds them". Amounts, the report of an accepted deal and a betterment are said of views
 use mathlib.Core.Bool.{Bool, _&&_}
 use mathlib.Core.List.{List, []}
 use lib.Dec.{leb, eqb}
@@ -34,6 +34,6 @@ acceptedView v =
     && (leb (length (v .collateral)) listLimit && allPass (v .collateral) (λ c. eqb (collateralRefusal c) 0))
     && (leb (length (v .guarantees)) listLimit && allPass (v .guarantees) (λ g. eqb (guaranteeRefusal g) 0))
 
--- a record that holds these fields and at most sixteen items in each list, one of many
+-- a record that holds these fields and items, one of many, where neither list has more than sixteen
 abbrev pub recordOf : View → Deal
 recordOf v = dealWith (v .terms) (v .collateral) (v .guarantees)

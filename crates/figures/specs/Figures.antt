@@ -1,5 +1,5 @@
--- The starred figures of document 01, "Figures at the edges": of scaling by its written meaning, of tables as they stand, of items and
--- amounts through the report of a whole deal.
+-- The starred figures of document 01, "Figures at the edges": of scaling by its written meaning, of tables and of the raised exposure as they
+-- stand, of items and amounts through the report of a whole deal.
 use Prim.Native.Nat.{ℕ, _<_}
 use mathlib.Core.Path.{_≡_}
 use mathlib.Core.List.{List, [], _∷_}

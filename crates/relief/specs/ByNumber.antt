@@ -14,7 +14,7 @@ use Rattle.relief.specs.declared.outcome.Outcome.{Outcome}
 use Rattle.relief.specs.Outcomes.{outcomeGround, outcomeValue}
 use Rattle.relief.specs.Recognition.{collateralGround, collateralValue, guaranteeGround, guaranteeValue}
 
--- a place: its ground's number, 0 for none, and its value
+-- a place: its ground's number, 0 for none, and its value. (A guarantee's portion is a number of the report already)
 pub record Place : Type 0 where
   pub ground : ℕ
   pub value : ℕ

@@ -30,6 +30,7 @@ unfoldable pub cutOf : Table → Terms → Collateral → ℕ
 cutOf table t c =
     collateralCut (table .haircut (c .asset .goods) (c .asset .step) (c .asset .life)) (c .currency) (t .currency) (holdingPeriod (t .kind) (t .interval))
 
+-- what it is worth where no ground leaves it out
 unfoldable pub collateralValue : Table → Terms → Collateral → ℕ
 collateralValue table t c = recognised (c .amount) (cutOf table t c) (c .residual) (t .residual)
 
@@ -68,7 +69,7 @@ otherEntity = 3
 abbrev pub isUnratedEntity : Guarantee → Bool
 isUnratedEntity g = eqb (g .provider .class) otherEntity && eqb (g .provider .step) 0
 
--- "Guarantees have only the currency haircut", which "always uses n = interval + 9"
+-- what it is worth where no ground leaves it out: "Guarantees have only the currency haircut", which "always uses n = interval + 9"
 unfoldable pub guaranteeValue : Terms → Guarantee → ℕ
 guaranteeValue t g =
     recognised (g .amount) (currencyCut (g .currency) (t .currency) (guaranteePeriod (t .interval))) (g .residual) (t .residual)

@@ -20,7 +20,8 @@ debtHaircuts =
 abbrev pub cell : ℕ → ℕ → ℕ → ℕ
 cell row band column = getD (getD (getD debtHaircuts row []) band []) column 0
 
--- unrated bank debt, eligible where listed senior, "uses the second row". CRE22.37(4)
+-- unrated bank debt, eligible where listed senior, "uses the second row" (CRE22.37(4)). So do steps 5 and 6 and other unrated debt, which
+-- are not eligible and whose figure counts for nothing
 unfoldable pub rowOf : ℕ → ℕ
 rowOf step = if eqb step 1 then 0 else if eqb step 4 then 2 else 1
 
