@@ -115,3 +115,8 @@ opens-only = (refl, refl)
 limit-of-bytes : (bookReply (replicate 65536 0) 0 ≡ refusedBy 9) × (bookReply (replicate 65537 0) 0 ≡ refusedBy 10)
 unfolding worked
 limit-of-bytes = (refl, refl)
+
+-- a wrong first line is answered before a wrong second one, and before a list that is too short
+nine-first : map (λ book. bookReply book 0) (bytes "CRM\t2\nC\n" ∷ bytes "\n\n" ∷ bytes "CRM\t2\nD\t\n" ∷ []) ≡ refusedBy 9 ∷ refusedBy 9 ∷ refusedBy 9 ∷ []
+unfolding worked
+nine-first = refl

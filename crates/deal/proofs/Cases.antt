@@ -1,7 +1,7 @@
 -- The definitions at the paper's own lines and at some edges, computed. Assumes nothing.
 use Prim.Native.Nat.{ℕ}
 use mathlib.Core.Path.{_≡_, refl}
-use mathlib.Core.List.{List, [], _∷_}
+use mathlib.Core.List.{List, [], _∷_, map}
 use lib.ListN.{replicate}
 use Rattle.base.specs.Choice.{if_then_else_}
 use Rattle.base.specs.FirstMet.{firstOr}
@@ -9,8 +9,9 @@ use Rattle.base.specs.Range.{within}
 use Rattle.deal.specs.Parties.{partyStepAllowed}
 use Rattle.deal.specs.Assets.{assetStepAllowed, lifeAllowed}
 use Rattle.deal.specs.Terms.{termsOf, termsTests, termsRefusal}
-use Rattle.deal.specs.Items.{collateralTests, collateralListTests, collateralRefusal, guaranteeTests, guaranteeRefusal, collateralListAllowed, guaranteeListAllowed}
-use Rattle.deal.specs.Deals.{recordAllowed, withoutProtection, addCollateralTests, addCollateralRefusal}
+use Rattle.deal.specs.Items.{collateralTests, collateralListTests, collateralRefusal, guaranteeTests, guaranteeRefusal, collateralListAllowed, guaranteeListAllowed, guaranteeListTests}
+use Rattle.deal.specs.Fields.{termsIn, collateralIn, guaranteeIn}
+use Rattle.deal.specs.Deals.{zeroCollateral, zeroGuarantee, openedDeal, dealWith, recordAllowed, withoutProtection, addCollateralTests, addCollateralRefusal, addGuaranteeTests, addGuaranteeRefusal, withCollateral, withGuarantee}
 use Rattle.deal.specs.declared.collateral.Collateral.{Collateral}
 use Rattle.deal.specs.declared.guarantee.Guarantee.{Guarantee}
 use Rattle.deal.specs.declared.deal.Deal.{Deal}
@@ -112,3 +113,91 @@ whole =
 whole-edges : whole ≡ 0 ∷ 6 ∷ 40 ∷ 40 ∷ 40 ∷ 0 ∷ []
 unfolding addCollateralRefusal addCollateralTests recordAllowed collateralListTests collateralListAllowed guaranteeListAllowed termsRefusal termsTests collateralRefusal collateralTests guaranteeRefusal guaranteeTests firstOr within partyStepAllowed assetStepAllowed lifeAllowed if_then_else_
 whole-edges = refl
+
+-- every type with issue life 0 and 360, at step 0 and 1; kinds; the ends of the ranges
+abbrev types : List ℕ
+types = 0 ∷ 1 ∷ 2 ∷ 3 ∷ 4 ∷ 5 ∷ 6 ∷ 7 ∷ 8 ∷ 9 ∷ 10 ∷ []
+
+abbrev lentAs : ℕ → ℕ → ℕ → ℕ
+lentAs step life goods = termsRefusal (termsOf 500 3 0 978 3 1 1800 goods step life)
+
+goods-edges : map (lentAs 0 0) types ∷ map (lentAs 0 360) types ∷ map (lentAs 1 360) types
+    ∷ map (lentAs 1 36000) types ∷ map (lentAs 1 36001) types
+    ∷ map (λ k. termsRefusal (termsOf 500 3 0 978 k 1 1800 1 0 0)) (0 ∷ 1 ∷ 2 ∷ 3 ∷ 4 ∷ [])
+    ∷ map (λ r. termsRefusal (termsOf 500 3 0 978 3 1 r 1 0 0)) (0 ∷ 1 ∷ 36000 ∷ 36001 ∷ [])
+    ∷ map (λ i. termsRefusal (termsOf 500 3 0 978 3 i 1800 1 0 0)) (0 ∷ 1 ∷ 250 ∷ 251 ∷ [])
+    ∷ map (λ c. termsRefusal (termsOf 500 3 0 c 3 1 1800 1 0 0)) (0 ∷ 1 ∷ 999 ∷ 1000 ∷ []) ∷ []
+    ≡ (2 ∷ 0 ∷ 5 ∷ 5 ∷ 5 ∷ 5 ∷ 5 ∷ 0 ∷ 0 ∷ 0 ∷ 2 ∷ [])
+    ∷ (2 ∷ 5 ∷ 0 ∷ 0 ∷ 0 ∷ 0 ∷ 0 ∷ 5 ∷ 5 ∷ 5 ∷ 2 ∷ [])
+    ∷ (2 ∷ 3 ∷ 0 ∷ 0 ∷ 0 ∷ 0 ∷ 0 ∷ 3 ∷ 3 ∷ 3 ∷ 2 ∷ [])
+    ∷ (2 ∷ 3 ∷ 0 ∷ 0 ∷ 0 ∷ 0 ∷ 0 ∷ 3 ∷ 3 ∷ 3 ∷ 2 ∷ [])
+    ∷ (2 ∷ 3 ∷ 5 ∷ 5 ∷ 5 ∷ 5 ∷ 5 ∷ 3 ∷ 3 ∷ 3 ∷ 2 ∷ [])
+    ∷ (2 ∷ 0 ∷ 0 ∷ 0 ∷ 2 ∷ [])
+    ∷ (5 ∷ 0 ∷ 0 ∷ 5 ∷ [])
+    ∷ (5 ∷ 0 ∷ 0 ∷ 5 ∷ [])
+    ∷ (4 ∷ 0 ∷ 0 ∷ 4 ∷ []) ∷ []
+unfolding termsRefusal termsTests firstOr within partyStepAllowed assetStepAllowed lifeAllowed if_then_else_
+goods-edges = refl
+
+-- items with every fault, and one less each time; issue lives; the longest terms
+abbrev item : List ℕ → ℕ
+item fields = collateralRefusal (collateralIn fields)
+
+abbrev backing : List ℕ → ℕ
+backing fields = guaranteeRefusal (guaranteeIn fields)
+
+items-in-order :
+    item (1000000000001 ∷ 10 ∷ 7 ∷ 1 ∷ 0 ∷ 0 ∷ 0 ∷ 2 ∷ 2 ∷ 2 ∷ 2 ∷ [])
+    ∷ item (5 ∷ 10 ∷ 7 ∷ 1 ∷ 0 ∷ 0 ∷ 0 ∷ 2 ∷ 2 ∷ 2 ∷ 2 ∷ [])
+    ∷ item (5 ∷ 1 ∷ 7 ∷ 1 ∷ 0 ∷ 0 ∷ 0 ∷ 2 ∷ 2 ∷ 2 ∷ 2 ∷ [])
+    ∷ item (5 ∷ 1 ∷ 0 ∷ 1 ∷ 0 ∷ 2 ∷ 1 ∷ 2 ∷ 2 ∷ 2 ∷ 2 ∷ [])
+    ∷ item (5 ∷ 1 ∷ 0 ∷ 1 ∷ 978 ∷ 2 ∷ 1 ∷ 2 ∷ 2 ∷ 2 ∷ 2 ∷ [])
+    ∷ item (5 ∷ 1 ∷ 0 ∷ 0 ∷ 978 ∷ 2 ∷ 1 ∷ 2 ∷ 2 ∷ 2 ∷ 2 ∷ [])
+    ∷ item (5 ∷ 1 ∷ 0 ∷ 0 ∷ 978 ∷ 1 ∷ 1 ∷ 1 ∷ 1 ∷ 1 ∷ 2 ∷ [])
+    ∷ item (5 ∷ 9 ∷ 0 ∷ 0 ∷ 999 ∷ 36000 ∷ 36000 ∷ 1 ∷ 1 ∷ 1 ∷ 1 ∷ [])
+    ∷ item (5 ∷ 7 ∷ 0 ∷ 1 ∷ 978 ∷ 1 ∷ 1 ∷ 1 ∷ 1 ∷ 1 ∷ 1 ∷ [])
+    ∷ item (5 ∷ 2 ∷ 1 ∷ 0 ∷ 978 ∷ 1 ∷ 1 ∷ 1 ∷ 1 ∷ 1 ∷ 1 ∷ [])
+    ∷ backing (1000000000001 ∷ 4 ∷ 7 ∷ 0 ∷ 2 ∷ 0 ∷ 2 ∷ 2 ∷ 2 ∷ [])
+    ∷ backing (5 ∷ 4 ∷ 7 ∷ 0 ∷ 2 ∷ 0 ∷ 2 ∷ 2 ∷ 2 ∷ [])
+    ∷ backing (5 ∷ 3 ∷ 7 ∷ 0 ∷ 2 ∷ 0 ∷ 2 ∷ 2 ∷ 2 ∷ [])
+    ∷ backing (5 ∷ 3 ∷ 6 ∷ 0 ∷ 2 ∷ 0 ∷ 2 ∷ 2 ∷ 2 ∷ [])
+    ∷ backing (5 ∷ 3 ∷ 6 ∷ 999 ∷ 2 ∷ 0 ∷ 2 ∷ 2 ∷ 2 ∷ [])
+    ∷ backing (5 ∷ 3 ∷ 6 ∷ 999 ∷ 2 ∷ 1 ∷ 2 ∷ 2 ∷ 2 ∷ [])
+    ∷ backing (5 ∷ 3 ∷ 6 ∷ 999 ∷ 36000 ∷ 36000 ∷ 1 ∷ 1 ∷ 2 ∷ [])
+    ∷ backing (5 ∷ 3 ∷ 6 ∷ 999 ∷ 36000 ∷ 36000 ∷ 1 ∷ 1 ∷ 1 ∷ [])
+    ∷ []
+    ≡ 1 ∷ 2 ∷ 3 ∷ 4 ∷ 5 ∷ 7 ∷ 8 ∷ 0 ∷ 5 ∷ 5 ∷ 1 ∷ 2 ∷ 3 ∷ 4 ∷ 5 ∷ 7 ∷ 8 ∷ 0 ∷ []
+unfolding collateralIn guaranteeIn collateralRefusal collateralTests guaranteeRefusal guaranteeTests firstOr within partyStepAllowed assetStepAllowed lifeAllowed if_then_else_
+items-in-order = refl
+
+-- fifteen, sixteen, seventeen guarantees
+abbrev guaranteed : ℕ → Guarantee → Deal
+guaranteed count g = record {
+  terms = termsOf 1000000 3 0 978 3 1 1800 1 0 0;
+  collateral = withoutProtection (termsOf 0 0 0 0 0 0 0 0 0 0) .collateral;
+  guarantees = record { items = replicate 16 g; count = count };
+}
+
+whole-guarantees :
+    addGuaranteeRefusal (guaranteed 15 (given 5 1 360 360 1)) (given 5 1 360 360 1)
+    ∷ addGuaranteeRefusal (guaranteed 16 (given 5 1 360 360 1)) (given 5 4 360 360 1)
+    ∷ addGuaranteeRefusal (guaranteed 17 (given 5 1 360 360 1)) (given 5 1 360 360 1)
+    ∷ addGuaranteeRefusal (guaranteed 1 (given 5 1 361 360 1)) (given 5 1 360 360 1)
+    ∷ addGuaranteeRefusal (guaranteed 0 (given 5 1 361 360 1)) (given 5 1 360 360 1)
+    ∷ [] ≡ 0 ∷ 6 ∷ 40 ∷ 40 ∷ 0 ∷ []
+unfolding addGuaranteeRefusal addGuaranteeTests recordAllowed guaranteeListTests collateralListAllowed guaranteeListAllowed termsRefusal termsTests collateralRefusal collateralTests guaranteeRefusal guaranteeTests firstOr within partyStepAllowed assetStepAllowed lifeAllowed if_then_else_
+whole-guarantees = refl
+
+-- zeros are zeros; beside a refusal nothing of the terms stays; two of each go behind each other
+zeros : (zeroCollateral ≡ collateralIn (replicate 11 0)) × ((zeroGuarantee ≡ guaranteeIn (replicate 9 0))
+    × (openedDeal (termsOf 500 2 7 840 1 1 30 1 0 0) ≡ dealWith (termsIn (replicate 10 0)) [] []))
+unfolding openedDeal collateralIn guaranteeIn termsIn termsRefusal termsTests firstOr within partyStepAllowed assetStepAllowed lifeAllowed if_then_else_
+zeros = (refl, (refl, refl))
+
+added-behind :
+    (let loan = termsOf 1000000 3 0 978 3 1 1800 1 0 0 in
+    let c : ℕ → Collateral = λ n. pledge n 1 360 360 1 in
+    let g : ℕ → Guarantee = λ n. given n 1 360 360 1 in
+    withGuarantee (withGuarantee (withCollateral (withCollateral (openedDeal loan) (c 1)) (c 2)) (g 3)) (g 4) ≡ dealWith loan (c 1 ∷ c 2 ∷ []) (g 3 ∷ g 4 ∷ []))
+unfolding openedDeal withCollateral withGuarantee addCollateralRefusal addCollateralTests addGuaranteeRefusal addGuaranteeTests recordAllowed collateralListTests guaranteeListTests collateralListAllowed guaranteeListAllowed termsRefusal termsTests collateralRefusal collateralTests guaranteeRefusal guaranteeTests firstOr within partyStepAllowed assetStepAllowed lifeAllowed if_then_else_
+added-behind = refl

@@ -1,19 +1,16 @@
 -- What the operations keep: an accepted opening is an accepted record, an accepted addition to one is one again, and a
 -- refused addition leaves an equal deal. Assumes nothing.
-use Prim.Native.Nat.{_+_, _<_}
 use mathlib.Core.Path.{_≡_, refl}
 use mathlib.Core.Bool.{Bool, true, false, _&&_}
-use native.Mathlib.Omega.{arith}
-use lib.Dec.{leb, eqb}
-use borrow.Author.Tests.{le-leb, leb-false, eq-eqb, eqb-true}
+use lib.Dec.{eqb}
+use borrow.Author.Tests.{eq-eqb, eqb-true}
 use Rattle.base.specs.Choice.{if_then_else_}
-use Rattle.base.proofs.Choice.{if-true, if-false}
+use Rattle.base.proofs.Choice.{either, if-true, if-false}
 use Rattle.base.proofs.Every.{both}
-use Rattle.base.proofs.All.{all-set}
-use Rattle.base.proofs.FirstMet.{none-exactly, none-met, not-met}
+use Rattle.base.proofs.FirstMet.{none-exactly, not-met}
 use Rattle.base.proofs.Tests.{and-true, not-false, told-not-true}
 use Rattle.deal.specs.Terms.{termsRefusal}
-use Rattle.deal.specs.Items.{collateralTests, collateralRefusal, collateralListAllowed, collateralListTests, collateralListRefusal, collateralListWith, guaranteeTests, guaranteeRefusal, guaranteeListAllowed, guaranteeListTests, guaranteeListRefusal, guaranteeListWith, appendCollateral, appendGuarantee, listLimit}
+use Rattle.deal.specs.Items.{collateralTests, collateralRefusal, collateralListAllowed, collateralListTests, collateralListRefusal, collateralListWith, guaranteeTests, guaranteeRefusal, guaranteeListAllowed, guaranteeListTests, guaranteeListRefusal, guaranteeListWith, appendCollateral, appendGuarantee}
 use Rattle.deal.specs.Deals.{accepted, recordAllowed, openedDeal, withoutProtection, addCollateralTests, addCollateralRefusal, withCollateral, addGuaranteeTests, addGuaranteeRefusal, withGuarantee}
 use Rattle.deal.specs.declared.terms.Terms.{Terms}
 use Rattle.deal.specs.declared.collateral.Collateral.{Collateral}
@@ -22,6 +19,7 @@ use Rattle.deal.specs.declared.guarantee.Guarantee.{Guarantee}
 use Rattle.deal.specs.declared.guarantee.GuaranteeList.{GuaranteeList}
 use Rattle.deal.specs.declared.deal.Deal.{Deal}
 use Rattle.deal.proofs.Cases.{zero-refused}
+use Rattle.deal.proofs.Lists.{still-allowed}
 
 -- the two tests of a record
 pub accepted-allowed : (d : Deal) → accepted d ≡ true → recordAllowed d ≡ true
@@ -65,25 +63,10 @@ module _ (l : CollateralList) (c : Collateral) where
   unfolding collateralListWith
   collateral-list-added e = if-true _ _ _ (eq-eqb _ 0 e)
 
-  -- it has a place then, and is allowed
-  pub collateral-list-fits : collateralListRefusal l c ≡ 0 → (l .count < listLimit) × (collateralRefusal c ≡ 0)
-  unfolding collateralListRefusal collateralListTests collateralTests collateralRefusal
-  collateral-list-fits e =
-      let n = none-exactly (collateralListTests l c) refl e in
-      (leb-false _ _ (n .0), none-met (collateralTests c) (n .1))
-
   pub collateral-list-allowed : collateralListAllowed l ≡ true → collateralListAllowed (collateralListWith l c) ≡ true
-  unfolding collateralListAllowed
-  collateral-list-allowed h = go (eqb (collateralListRefusal l c) 0) refl
-    where
-      go : (b : Bool) → eqb (collateralListRefusal l c) 0 ≡ b → collateralListAllowed (collateralListWith l c) ≡ true
-      go true e =
-          let r = eqb-true _ 0 e in
-          let f = collateral-list-fits r in
-          let a = both (leb (l .count) listLimit) _ h in
-          let more = all-set (λ x. eqb (collateralRefusal x) 0) (l .count) (l .items) c (a .1) (eq-eqb _ 0 (f .1)) in
-          rw (collateral-list-added r) (and-true _ _ (le-leb (l .count + 1) listLimit (omega (arith, f .0))) more)
-      go false e = rw (collateral-list-refused e) h
+  unfolding collateralListAllowed collateralListWith collateralListRefusal collateralListTests collateralRefusal collateralTests
+  collateral-list-allowed h =
+      either (λ m. collateralListAllowed m ≡ true) (eqb (collateralListRefusal l c) 0) (λ e. still-allowed collateralTests (l .items) (l .count) c refl (eqb-true _ 0 e) h) (λ e. h)
 
 module _ (d : Deal) (c : Collateral) where
   pub collateral-refused : eqb (addCollateralRefusal d c) 0 ≡ false → withCollateral d c ≡ d
@@ -129,25 +112,10 @@ module _ (l : GuaranteeList) (g : Guarantee) where
   unfolding guaranteeListWith
   guarantee-list-added e = if-true _ _ _ (eq-eqb _ 0 e)
 
-  -- it has a place then, and is allowed
-  pub guarantee-list-fits : guaranteeListRefusal l g ≡ 0 → (l .count < listLimit) × (guaranteeRefusal g ≡ 0)
-  unfolding guaranteeListRefusal guaranteeListTests guaranteeTests guaranteeRefusal
-  guarantee-list-fits e =
-      let n = none-exactly (guaranteeListTests l g) refl e in
-      (leb-false _ _ (n .0), none-met (guaranteeTests g) (n .1))
-
   pub guarantee-list-allowed : guaranteeListAllowed l ≡ true → guaranteeListAllowed (guaranteeListWith l g) ≡ true
-  unfolding guaranteeListAllowed
-  guarantee-list-allowed h = go (eqb (guaranteeListRefusal l g) 0) refl
-    where
-      go : (b : Bool) → eqb (guaranteeListRefusal l g) 0 ≡ b → guaranteeListAllowed (guaranteeListWith l g) ≡ true
-      go true e =
-          let r = eqb-true _ 0 e in
-          let f = guarantee-list-fits r in
-          let a = both (leb (l .count) listLimit) _ h in
-          let more = all-set (λ x. eqb (guaranteeRefusal x) 0) (l .count) (l .items) g (a .1) (eq-eqb _ 0 (f .1)) in
-          rw (guarantee-list-added r) (and-true _ _ (le-leb (l .count + 1) listLimit (omega (arith, f .0))) more)
-      go false e = rw (guarantee-list-refused e) h
+  unfolding guaranteeListAllowed guaranteeListWith guaranteeListRefusal guaranteeListTests guaranteeRefusal guaranteeTests
+  guarantee-list-allowed h =
+      either (λ m. guaranteeListAllowed m ≡ true) (eqb (guaranteeListRefusal l g) 0) (λ e. still-allowed guaranteeTests (l .items) (l .count) g refl (eqb-true _ 0 e) h) (λ e. h)
 
 module _ (d : Deal) (g : Guarantee) where
   pub guarantee-refused : eqb (addGuaranteeRefusal d g) 0 ≡ false → withGuarantee d g ≡ d

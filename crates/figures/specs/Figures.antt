@@ -10,6 +10,7 @@ use Rattle.tables.specs.Table.{table2019}
 use Rattle.scaling.specs.Period.{repoStyle, securedLending, holdingPeriod}
 use Rattle.scaling.specs.Scaling.{IsScaled}
 use Rattle.deal.specs.Terms.{termsOf}
+use Rattle.deal.specs.Answers.{answerNumber}
 use Rattle.deal.specs.Deals.{dealWith}
 use Rattle.deal.specs.Editions.{tableFor}
 use Rattle.deal.specs.declared.terms.Terms.{Terms}
@@ -85,6 +86,10 @@ value interval c = outcomeValue (getD (reportOf (dealWith (loan 2000000 interval
 abbrev ground : ℕ → Collateral → ℕ
 ground interval c = outcomeGround (getD (reportOf (dealWith (loan 2000000 interval) (c ∷ []) []) .collateral) 0 noCollateral .outcome)
 
+-- and reporting's refusal or 0
+abbrev answer : ℕ → Collateral → ℕ
+answer interval c = answerNumber (reportOf (dealWith (loan 2000000 interval) (c ∷ []) []) .answer)
+
 -- of an only guarantee
 abbrev guaranteed : ℕ → Guarantee → ℕ
 guaranteed interval g = outcomeValue (getD (reportOf (dealWith (loan 2000000 interval) [] (g ∷ [])) .guarantees) 0 noGuarantee .outcome)
@@ -116,6 +121,8 @@ starred =
     ∷ scales-above (table2019 .haircut otherListedEquity 0 0) (holdingPeriod securedLending 250) 1000000
     ∷ is (value 250 (pledge 1000000 otherListedEquity home 1800 1800)) 0
     ∷ is (ground 250 (pledge 1000000 otherListedEquity home 1800 1800)) 0
+    -- (of a deal that is accepted)
+    ∷ is (answer 250 (pledge 1000000 otherListedEquity home 1800 1800)) 0
     -- "Type 3, step 3, life 360: 20000; 361: 60000"
     ∷ is (table2019 .haircut otherDebt 3 360) 20000
     ∷ is (table2019 .haircut otherDebt 3 361) 60000

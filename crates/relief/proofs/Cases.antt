@@ -115,3 +115,14 @@ ten = record {
 pub capped : reportOf (dealWith (termsOf 100 3 0 978 1 6 1800 8 0 0) (ten ∷ []) []) .exposure ≡ 100
 unfolding computed
 capped = refl
+
+-- short cover that lasts as long as its deal is no mismatch: neither 25 nor 26
+pub no-mismatch : (collateralGrounds (termsOf 10000 3 0 978 3 1 30 1 0 0) (pledge 1 0 0 30 30 1 1 1 ∷ []) 1 ≡ 0 ∷ [])
+    × (guaranteeGrounds (termsOf 10000 3 0 978 3 1 30 1 0 0) (guarantee 2 978 30 30 1 1 1 ∷ []) 1 ≡ 0 ∷ [])
+unfolding computed
+no-mismatch = (refl, refl)
+
+-- 28 is of other entities: a sovereign and a bank that are unrated are recognised, for a corporate at step 6
+pub unrated-others : guaranteeGrounds (loan 6) (guarantee 1 978 1800 1800 1 1 1 ∷ guarantee 2 978 1800 1800 1 1 1 ∷ guarantee 3 978 1800 1800 1 1 1 ∷ []) 3 ≡ 0 ∷ 0 ∷ 28 ∷ []
+unfolding computed
+unrated-others = refl

@@ -1,6 +1,9 @@
 -- The laws of holding periods. Assumes nothing.
 use Prim.Native.Nat.{ℕ, _+_, _≤_}
 use native.Mathlib.Omega.{arith}
+use mathlib.Core.Path.{_≡_, refl}
+use mathlib.Core.List.{[], _∷_, map}
+use Rattle.base.specs.Choice.{if_then_else_}
 use lib.Dec.{eqb}
 use Rattle.base.proofs.Choice.{either}
 use Rattle.scaling.specs.Period.{minimumPeriod, holdingPeriod, guaranteePeriod}
@@ -26,3 +29,8 @@ period-bound kind interval = omega (arith, minimum-bound kind)
 pub guarantee-bound : (interval : ℕ) → guaranteePeriod interval ≤ interval + 9
 unfolding guaranteePeriod
 guarantee-bound interval = omega arith
+
+-- the paper's periods
+pub periods : (map (λ k. holdingPeriod k 1) (1 ∷ 2 ∷ 3 ∷ []) ≡ 5 ∷ 10 ∷ 20 ∷ []) × (map guaranteePeriod (1 ∷ 11 ∷ 250 ∷ []) ≡ 10 ∷ 20 ∷ 259 ∷ [])
+unfolding holdingPeriod minimumPeriod guaranteePeriod if_then_else_
+periods = (refl, refl)

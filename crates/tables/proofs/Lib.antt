@@ -1,3 +1,4 @@
+pub mod Printed
 pub mod Equity
 pub mod Listed
 pub mod ByStep

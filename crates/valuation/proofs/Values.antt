@@ -3,6 +3,7 @@ use Prim.Native.Nat.{ℕ, _+_, _*_, _-_, _/_, _≤_, _<_, min}
 use mathlib.Core.Path.{_≡_, refl, _∙_}
 use native.Mathlib.Omega.{arith}
 use native.Mathlib.Nat.{le-trans, mul-le-mul, mul-zero, zero-div}
+use Rattle.base.specs.Choice.{if_then_else_}
 use lib.Dec.{ltb}
 use borrow.Author.Tests.{ltb-true, ltb-false, lt-ltb, le-ltb}
 use Rattle.base.proofs.Choice.{either, if-true, if-false}
@@ -89,3 +90,8 @@ recognised-mono term ha hc hr = adjusted-mono term (reduced-mono ha hc) hr
 pub recognised-le : (a cut cover term : ℕ) → recognised a cut cover term ≤ a
 unfolding recognised
 recognised-le a cut cover term = le-trans (adjusted-le (reduced a cut) cover term) (reduced-le a cut)
+
+-- deals beyond five years: T is 1,800, and cover of five years or more is worth its whole value
+beyond-five-years : (adjusted 1000000 900 3600 ≡ 473684) × (adjusted 1000000 1800 3600 ≡ 1000000)
+unfolding adjusted mismatched if_then_else_
+beyond-five-years = (refl, refl)
