@@ -9,6 +9,7 @@ use Rattle.base.proofs.Every.{both}
 use Rattle.base.proofs.Least.{least-unique}
 use Rattle.scaling.specs.Scaling.{scaled}
 use Rattle.scaling.proofs.Scaled.{scaled-is}
+use Rattle.deal.specs.Answers.{answerNumber}
 use Rattle.relief.proofs.Computed.{computed}
 use Rattle.figures.specs.Figures.{Figure, is, scales, scales-above, Right, AllRight, starred}
 
@@ -28,5 +29,5 @@ all-right (f ∷ fs) e = let b = both (agrees f) (allPass fs agrees) e in (right
 
 -- EVERY STARRED FIGURE IS WHAT THE DEFINITIONS GIVE
 pub starred-right : AllRight starred
-unfolding computed
+unfolding computed answerNumber
 starred-right = all-right starred refl
