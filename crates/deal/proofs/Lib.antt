@@ -3,6 +3,7 @@ pub mod Answers
 pub mod Deals
 pub mod Editions
 pub mod Exact
+pub mod BothWays
 pub mod Lists
 pub mod Plain
 pub mod Views

@@ -1,6 +1,7 @@
--- A deal's terms and its items from the numbers that are sent, in the order of 01: What a deal holds.
+-- A deal's terms and its items from the numbers that are sent, in the order of 01: What a deal holds, and back again. The two ways are
+-- inverse to each other (proofs/BothWays)
 use Prim.Native.Nat.{ℕ}
-use mathlib.Core.List.{List}
+use mathlib.Core.List.{List, [], _∷_}
 use lib.ListN.{getD}
 use Rattle.deal.specs.Terms.{termsOf}
 use Rattle.deal.specs.declared.terms.Terms.{Terms}
@@ -24,6 +25,20 @@ termsIn fields =
     let field : ℕ → ℕ = λ k. getD fields k 0 in
     termsOf (field 0) (field 1) (field 2) (field 3) (field 4) (field 5) (field 6) (field 7) (field 8) (field 9)
 
+unfoldable pub termsFields : Terms → List ℕ
+termsFields t =
+    t .amount
+    ∷ t .counterparty .class
+    ∷ t .counterparty .step
+    ∷ t .currency
+    ∷ t .kind
+    ∷ t .interval
+    ∷ t .residual
+    ∷ t .lent .goods
+    ∷ t .lent .step
+    ∷ t .lent .life
+    ∷ []
+
 -- "Collateral: amount; type; step; issue life; currency; residual term of the pledge; its original term; conditions: lawful, unrelated to
 -- the counterparty, not already in the rating used, listed senior bank paper"
 unfoldable pub collateralIn : List ℕ → Collateral
@@ -41,6 +56,21 @@ collateralIn fields =
       listed = field 10;
     }
 
+unfoldable pub collateralFields : Collateral → List ℕ
+collateralFields c =
+    c .amount
+    ∷ c .asset .goods
+    ∷ c .asset .step
+    ∷ c .asset .life
+    ∷ c .currency
+    ∷ c .residual
+    ∷ c .original
+    ∷ c .lawful
+    ∷ c .unrelated
+    ∷ c .unreflected
+    ∷ c .listed
+    ∷ []
+
 -- "Guarantee: amount; provider class ..; step; currency; residual and original term; conditions: lawful, direct .., not already in the
 -- rating used"
 unfoldable pub guaranteeIn : List ℕ → Guarantee
@@ -56,3 +86,16 @@ guaranteeIn fields =
       direct = field 7;
       unreflected = field 8;
     }
+
+unfoldable pub guaranteeFields : Guarantee → List ℕ
+guaranteeFields g =
+    g .amount
+    ∷ g .provider .class
+    ∷ g .provider .step
+    ∷ g .currency
+    ∷ g .residual
+    ∷ g .original
+    ∷ g .lawful
+    ∷ g .direct
+    ∷ g .unreflected
+    ∷ []

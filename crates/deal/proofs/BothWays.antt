@@ -1,0 +1,43 @@
+-- Terms and items and the numbers that are sent for them: one is read from the other and written back unchanged. Assumes nothing.
+use Prim.Native.Nat.{ℕ, zero, suc}
+use mathlib.Core.Path.{_≡_, refl, ap}
+use mathlib.Core.List.{List, [], _∷_}
+use native.Mathlib.Omega.{arith}
+use lib.ListN.{length, getD}
+use Rattle.deal.specs.Fields.{collateralFields, collateralIn, collateralWidth, guaranteeFields, guaranteeIn, guaranteeWidth, termsFields, termsIn, termsWidth}
+use Rattle.deal.specs.declared.terms.Terms.{Terms}
+use Rattle.deal.specs.declared.collateral.Collateral.{Collateral}
+use Rattle.deal.specs.declared.guarantee.Guarantee.{Guarantee}
+
+-- the numbers in so many places, from the front
+abbrev numbered : ℕ → (ℕ → ℕ) → List ℕ
+numbered zero number = []
+numbered (suc n) number = number 0 ∷ numbered n (λ k. number (suc k))
+
+as-read : (ns : List ℕ) → numbered (length ns) (λ k. getD ns k 0) ≡ ns
+as-read [] = refl
+as-read (n ∷ ns) = ap (λ (l : List ℕ). n ∷ l) (as-read ns)
+
+pub terms-back : (t : Terms) → termsIn (termsFields t) ≡ t
+unfolding termsIn termsFields
+terms-back t = refl
+
+pub terms-forth : (ns : List ℕ) → length ns ≡ termsWidth → termsFields (termsIn ns) ≡ ns
+unfolding termsIn termsFields
+terms-forth ns e = rw e at (as-read ns)
+
+pub collateral-back : (c : Collateral) → collateralIn (collateralFields c) ≡ c
+unfolding collateralIn collateralFields
+collateral-back c = refl
+
+pub collateral-forth : (ns : List ℕ) → length ns ≡ collateralWidth → collateralFields (collateralIn ns) ≡ ns
+unfolding collateralIn collateralFields
+collateral-forth ns e = rw e at (as-read ns)
+
+pub guarantee-back : (g : Guarantee) → guaranteeIn (guaranteeFields g) ≡ g
+unfolding guaranteeIn guaranteeFields
+guarantee-back g = refl
+
+pub guarantee-forth : (ns : List ℕ) → length ns ≡ guaranteeWidth → guaranteeFields (guaranteeIn ns) ≡ ns
+unfolding guaranteeIn guaranteeFields
+guarantee-forth ns e = rw e at (as-read ns)
