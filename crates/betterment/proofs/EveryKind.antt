@@ -9,7 +9,7 @@ use Rattle.deal.specs.declared.terms.Terms.{Terms}
 use Rattle.deal.specs.declared.collateral.Collateral.{Collateral}
 use Rattle.deal.specs.declared.guarantee.Guarantee.{Guarantee}
 use Rattle.deal.specs.declared.deal.Deal.{Deal}
-use Rattle.betterment.specs.Changes.{collateralAmount, collateralStep, collateralCurrency, collateralResidual, collateralOriginal, collateralLawful, collateralUnrelated, collateralUnreflected, collateralListed, guaranteeAmount, guaranteeStep, guaranteeCurrency, guaranteeResidual, guaranteeOriginal, guaranteeLawful, guaranteeDirect, guaranteeUnreflected, termsInterval, termsLentStep}
+use Rattle.betterment.specs.Changes.{collateralAmount, collateralStep, collateralCurrency, collateralResidual, collateralOriginal, collateralLawful, collateralUnrelated, collateralNotInRating, collateralListed, guaranteeAmount, guaranteeStep, guaranteeCurrency, guaranteeResidual, guaranteeOriginal, guaranteeLawful, guaranteeDirect, guaranteeNotInRating, termsInterval, termsLentStep}
 use Rattle.deal.specs.Views.{View, viewOf, acceptedView}
 use Rattle.betterment.specs.Betterments.{BetterCollateral, BetterGuarantee, BetterTerms, OneChanged, OneMore, Better, Betterments}
 
@@ -59,8 +59,8 @@ module _ (t : Terms) (gs : List Guarantee) (front back : List Collateral) (c : C
   pub collateral-unrelated : c .unrelated ≡ 0 → To (collateralUnrelated c 1)
   collateral-unrelated e = to (BetterCollateral.now-unrelated e)
 
-  pub collateral-unreflected : c .unreflected ≡ 0 → To (collateralUnreflected c 1)
-  collateral-unreflected e = to (BetterCollateral.now-unreflected e)
+  pub collateral-not-in-rating : c .«not_in_rating» ≡ 0 → To (collateralNotInRating c 1)
+  collateral-not-in-rating e = to (BetterCollateral.now-not-in-rating e)
 
   pub collateral-listed : c .listed ≡ 0 → To (collateralListed c 1)
   collateral-listed e = to (BetterCollateral.now-listed e)
@@ -97,8 +97,8 @@ module _ (t : Terms) (cs : List Collateral) (front back : List Guarantee) (g : G
   pub guarantee-direct : g .direct ≡ 0 → GuaranteeTo (guaranteeDirect g 1)
   guarantee-direct e = guarantee-to (BetterGuarantee.now-direct e)
 
-  pub guarantee-unreflected : g .unreflected ≡ 0 → GuaranteeTo (guaranteeUnreflected g 1)
-  guarantee-unreflected e = guarantee-to (BetterGuarantee.now-unreflected e)
+  pub guarantee-not-in-rating : g .«not_in_rating» ≡ 0 → GuaranteeTo (guaranteeNotInRating g 1)
+  guarantee-not-in-rating e = guarantee-to (BetterGuarantee.now-not-in-rating e)
 
   pub guarantees-more : Better (view t cs (front ++ back)) (view t cs (front ++ g ∷ back))
   guarantees-more = Better.more-guarantees (more-at front back g)

@@ -15,7 +15,7 @@ use Rattle.deal.specs.declared.guarantee.Guarantee.{Guarantee}
 use Rattle.deal.specs.declared.deal.Deal.{Deal}
 use Rattle.relief.proofs.Computed.{computed}
 use Rattle.relief.specs.Report.{reportOf}
-use Rattle.betterment.specs.Changes.{collateralAmount, collateralStep, collateralCurrency, collateralResidual, collateralOriginal, collateralLawful, collateralUnrelated, collateralUnreflected, guaranteeAmount, guaranteeStep, guaranteeCurrency, guaranteeResidual, guaranteeOriginal, guaranteeLawful, guaranteeDirect, guaranteeUnreflected, termsInterval}
+use Rattle.betterment.specs.Changes.{collateralAmount, collateralStep, collateralCurrency, collateralResidual, collateralOriginal, collateralLawful, collateralUnrelated, collateralNotInRating, guaranteeAmount, guaranteeStep, guaranteeCurrency, guaranteeResidual, guaranteeOriginal, guaranteeLawful, guaranteeDirect, guaranteeNotInRating, termsInterval}
 use Rattle.deal.specs.Views.{View, viewOf, acceptedView, recordOf}
 use Rattle.betterment.specs.Betterments.{BetterCollateral, BetterGuarantee, BetterTerms, OneChanged, OneMore, Better, Betterments}
 use Rattle.betterment.proofs.Theorem.{betterments-never-raise}
@@ -33,7 +33,7 @@ pledge goods step = record {
   original = 1800;
   lawful = 1;
   unrelated = 1;
-  unreflected = 1;
+  «not_in_rating» = 1;
   listed = 0;
 }
 
@@ -49,7 +49,7 @@ backing = record {
   original = 1800;
   lawful = 1;
   direct = 1;
-  unreflected = 1;
+  «not_in_rating» = 1;
 }
 
 abbrev deal : Terms → List Collateral → List Guarantee → Deal
@@ -58,7 +58,7 @@ deal t cs gs = recordOf (record { terms = t; collateral = cs; guarantees = gs })
 -- the weighted amount that reporting gives, worked out
 amount : Deal → ℕ
 unfolding computed
-amount d = reportOf d .weighted
+amount d = reportOf d .rwa
 
 book : amount (deal loan (debt ∷ []) (backing ∷ [])) ≡ 411314
 unfolding amount
@@ -101,7 +101,7 @@ cases =
     ++ of-collateral (BetterCollateral.deal-currency {c = collateralCurrency debt 840})
     ++ of-collateral (BetterCollateral.now-lawful {c = collateralLawful debt 0} refl)
     ++ of-collateral (BetterCollateral.now-unrelated {c = collateralUnrelated debt 0} refl)
-    ++ of-collateral (BetterCollateral.now-unreflected {c = collateralUnreflected debt 0} refl)
+    ++ of-collateral (BetterCollateral.now-not-in-rating {c = collateralNotInRating debt 0} refl)
     -- bank debt, unrated
     ++ of-collateral (BetterCollateral.now-listed {c = pledge 4 0} refl)
     ++ of-guarantee (BetterGuarantee.higher-amount {g = guaranteeAmount backing 100000} 200000 (omega arith))
@@ -111,7 +111,7 @@ cases =
     ++ of-guarantee (BetterGuarantee.deal-currency {g = guaranteeCurrency backing 840})
     ++ of-guarantee (BetterGuarantee.now-lawful {g = guaranteeLawful backing 0} refl)
     ++ of-guarantee (BetterGuarantee.now-direct {g = guaranteeDirect backing 0} refl)
-    ++ of-guarantee (BetterGuarantee.now-unreflected {g = guaranteeUnreflected backing 0} refl)
+    ++ of-guarantee (BetterGuarantee.now-not-in-rating {g = guaranteeNotInRating backing 0} refl)
     -- sovereign debt lent under a repo
     ++ of-terms (BetterTerms.smaller-lent-step {t = termsOf 1000000 3 0 978 1 1 1800 2 4 720} 1 (omega arith))
     ++ of-terms (BetterTerms.smaller-interval {t = termsInterval loan 250} 1 (omega arith))
@@ -163,6 +163,6 @@ unfolding amount
 amounts = refl
 
 -- as the rule says
-rule : (reportOf (deal loan after (backing ∷ [])) .weighted ≤ reportOf start .weighted)
-    × (reportOf (deal loan after (backing ∷ [])) .weighted ≤ reportOf (withoutProtection loan) .weighted)
+rule : (reportOf (deal loan after (backing ∷ [])) .rwa ≤ reportOf start .rwa)
+    × (reportOf (deal loan after (backing ∷ [])) .rwa ≤ reportOf (withoutProtection loan) .rwa)
 rule = betterments-never-raise start (deal loan after (backing ∷ [])) start-accepted some-refused

@@ -13,7 +13,7 @@ use Rattle.deal.proofs.Plain.{PlainTerms, PlainCollateral, PlainGuarantee, plai
 use Rattle.deal.specs.declared.terms.Terms.{Terms}
 use Rattle.deal.specs.declared.collateral.Collateral.{Collateral}
 use Rattle.deal.specs.declared.guarantee.Guarantee.{Guarantee}
-use Rattle.relief.specs.Exposure.{weightedAmount}
+use Rattle.relief.specs.Exposure.{riskWeightedAmountOf}
 use Rattle.relief.proofs.NoWorse.{SameOrBetter, SameOrDeals, NoLowerCollateral, NoLowerGuarantee, NoWorseTerms, NoWorseCollateral, NoWorseGuarantee, NoLess, none, kept, more}
 use Rattle.relief.proofs.Amounts.{amount-no-higher}
 use Rattle.deal.specs.Views.{View, acceptedView}
@@ -51,7 +51,7 @@ module _ {currency : ℕ} where
   changed-collateral BetterCollateral.deal-currency p p′ = no-worse-collateral p p′ (omega arith) (inl refl) (inr refl)
   changed-collateral (BetterCollateral.now-lawful e) p p′ = no-worse-collateral p p′ (omega arith) (inl refl) (inl refl)
   changed-collateral (BetterCollateral.now-unrelated e) p p′ = no-worse-collateral p p′ (omega arith) (inl refl) (inl refl)
-  changed-collateral (BetterCollateral.now-unreflected e) p p′ = no-worse-collateral p p′ (omega arith) (inl refl) (inl refl)
+  changed-collateral (BetterCollateral.now-not-in-rating e) p p′ = no-worse-collateral p p′ (omega arith) (inl refl) (inl refl)
   changed-collateral (BetterCollateral.now-listed e) p p′ = no-worse-collateral p p′ (omega arith) (inl refl) (inl refl)
 
   no-worse-guarantee : {g g′ : Guarantee} → PlainGuarantee g → PlainGuarantee g′ → NoLowerGuarantee g g′ → SameOrBetter (g .provider .step) (g′ .provider .step) →
@@ -69,7 +69,7 @@ module _ {currency : ℕ} where
   changed-guarantee BetterGuarantee.deal-currency p p′ = no-worse-guarantee p p′ (omega arith) (inl refl) (inr refl)
   changed-guarantee (BetterGuarantee.now-lawful e) p p′ = no-worse-guarantee p p′ (omega arith) (inl refl) (inl refl)
   changed-guarantee (BetterGuarantee.now-direct e) p p′ = no-worse-guarantee p p′ (omega arith) (inl refl) (inl refl)
-  changed-guarantee (BetterGuarantee.now-unreflected e) p p′ = no-worse-guarantee p p′ (omega arith) (inl refl) (inl refl)
+  changed-guarantee (BetterGuarantee.now-not-in-rating e) p p′ = no-worse-guarantee p p′ (omega arith) (inl refl) (inl refl)
 
 -- Lists of items that pass a test
 
@@ -134,7 +134,7 @@ module _ (currency : ℕ) where
       (λ g g′ b e e′. changed-guarantee b (guarantee-plain g e) (guarantee-plain g′ e′))
 
 module _ {table : Table} (laws : TableLaws table) where
-  lowers : (v v′ : View) → Better v v′ → FitsView v → FitsView v′ → weightedAmount table v′ ≤ weightedAmount table v
+  lowers : (v v′ : View) → Better v v′ → FitsView v → FitsView v′ → riskWeightedAmountOf table v′ ≤ riskWeightedAmountOf table v
   lowers v v′ (Better.better-terms {t = t} {cs = cs} {gs = gs} b) f f′ =
       amount-no-higher laws (changed-terms (plain-terms t (f .terms)) b)
       (collateral-kept (t .currency) cs (f .collateral)) (guarantees-kept (t .currency) gs (f .guarantees))
@@ -152,5 +152,5 @@ module _ {table : Table} (laws : TableLaws table) where
       (collateral-kept (t .currency) cs (f .collateral)) (guarantees-longer (t .currency) b (f′ .guarantees))
 
   -- ONE BETTERMENT NEVER RAISES THE WEIGHTED AMOUNT
-  pub better-lowers : (v v′ : View) → Better v v′ → acceptedView v ≡ true → acceptedView v′ ≡ true → weightedAmount table v′ ≤ weightedAmount table v
+  pub better-lowers : (v v′ : View) → Better v v′ → acceptedView v ≡ true → acceptedView v′ ≡ true → riskWeightedAmountOf table v′ ≤ riskWeightedAmountOf table v
   better-lowers v v′ b e e′ = lowers v v′ b (view-fits v e) (view-fits v′ e′)

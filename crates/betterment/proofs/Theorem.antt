@@ -12,10 +12,10 @@ use Rattle.deal.proofs.Editions.{lawful}
 use Rattle.deal.proofs.Exact.{accepted-fits, fits-accepted}
 use Rattle.deal.specs.declared.terms.Terms.{Terms}
 use Rattle.deal.specs.declared.deal.Deal.{Deal}
-use Rattle.relief.specs.Exposure.{weightedAmount}
+use Rattle.relief.specs.Exposure.{riskWeightedAmountOf}
 use Rattle.relief.specs.Report.{reportUnder, reportOf}
 use Rattle.relief.proofs.Amounts.{no-higher-than-without}
-use Rattle.relief.proofs.Reports.{weighted-of}
+use Rattle.relief.proofs.Reports.{rwa-of}
 use Rattle.deal.specs.Views.{View, viewOf, acceptedView, recordOf}
 use Rattle.betterment.specs.Betterments.{BetterTerms, Better, Betterments, NeverRaised, NeverRaisedUnder}
 use Rattle.deal.proofs.Views.{accepted-view, can-be-made}
@@ -69,22 +69,22 @@ same-table (Betterments.refused proposed b r l) = same-table l
 -- for every table with the laws
 module _ {table : Table} (laws : TableLaws table) where
   -- than before
-  no-higher-than-before : {d e : Deal} → accepted d ≡ true → Betterments d e → reportUnder table e .weighted ≤ reportUnder table d .weighted
+  no-higher-than-before : {d e : Deal} → accepted d ≡ true → Betterments d e → reportUnder table e .rwa ≤ reportUnder table d .rwa
   no-higher-than-before {d} a Betterments.no-more = omega arith
   no-higher-than-before {d} {e} a (Betterments.held-otherwise {d′ = d′} same a′ l) =
-      omega (arith, no-higher-than-before a′ l, weighted-of table d a, weighted-of table d′ a′, ap (weightedAmount table) same)
+      omega (arith, no-higher-than-before a′ l, rwa-of table d a, rwa-of table d′ a′, ap (riskWeightedAmountOf table) same)
   no-higher-than-before {d} {e} a (Betterments.made {d′ = d′} b a′ l) =
       let one = better-lowers laws (viewOf d) (viewOf d′) b (accepted-view d a) (accepted-view d′ a′) in
-      omega (arith, no-higher-than-before a′ l, weighted-of table d a, weighted-of table d′ a′, one)
+      omega (arith, no-higher-than-before a′ l, rwa-of table d a, rwa-of table d′ a′, one)
   no-higher-than-before a (Betterments.refused proposed b r l) = no-higher-than-before a l
 
   -- than the deal as it stands, without protection
-  no-higher-than-unprotected : (e : Deal) → accepted e ≡ true → reportUnder table e .weighted ≤ reportUnder table (withoutProtection (e .terms)) .weighted
+  no-higher-than-unprotected : (e : Deal) → accepted e ≡ true → reportUnder table e .rwa ≤ reportUnder table (withoutProtection (e .terms)) .rwa
   no-higher-than-unprotected e a =
       omega (
         arith,
-        weighted-of table e a,
-        weighted-of table (withoutProtection (e .terms)) (without-accepted e a),
+        rwa-of table e a,
+        rwa-of table (withoutProtection (e .terms)) (without-accepted e a),
         no-higher-than-without table (viewOf e),
       )
 
@@ -98,6 +98,6 @@ pub betterments-never-raise : NeverRaised
 betterments-never-raise d e a l =
     let under = betterments-under (lawful (d .terms)) d e a l in
     let same = sym (same-table l) in (
-      subst (λ table. reportUnder table e .weighted ≤ reportOf d .weighted) same (under .0),
-      subst (λ table. reportUnder table e .weighted ≤ reportUnder table (withoutProtection (e .terms)) .weighted) same (under .1),
+      subst (λ table. reportUnder table e .rwa ≤ reportOf d .rwa) same (under .0),
+      subst (λ table. reportUnder table e .rwa ≤ reportUnder table (withoutProtection (e .terms)) .rwa) same (under .1),
     )

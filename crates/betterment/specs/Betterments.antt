@@ -10,7 +10,7 @@ use Rattle.deal.specs.declared.collateral.Collateral.{Collateral}
 use Rattle.deal.specs.declared.guarantee.Guarantee.{Guarantee}
 use Rattle.deal.specs.declared.deal.Deal.{Deal}
 use Rattle.relief.specs.Report.{reportUnder, reportOf}
-use Rattle.betterment.specs.Changes.{collateralAmount, collateralStep, collateralCurrency, collateralResidual, collateralOriginal, collateralLawful, collateralUnrelated, collateralUnreflected, collateralListed, guaranteeAmount, guaranteeStep, guaranteeCurrency, guaranteeResidual, guaranteeOriginal, guaranteeLawful, guaranteeDirect, guaranteeUnreflected, termsInterval, termsLentStep}
+use Rattle.betterment.specs.Changes.{collateralAmount, collateralStep, collateralCurrency, collateralResidual, collateralOriginal, collateralLawful, collateralUnrelated, collateralNotInRating, collateralListed, guaranteeAmount, guaranteeStep, guaranteeCurrency, guaranteeResidual, guaranteeOriginal, guaranteeLawful, guaranteeDirect, guaranteeNotInRating, termsInterval, termsLentStep}
 use Rattle.deal.specs.Views.{View, viewOf, acceptedView}
 
 -- "a smaller step, old and new both 1 to 6"
@@ -27,7 +27,7 @@ pub data BetterCollateral (currency : ℕ) : Collateral → Collateral → Type 
   deal-currency : {c : Collateral} → BetterCollateral currency c (collateralCurrency c currency)
   now-lawful : {c : Collateral} → c .lawful ≡ 0 → BetterCollateral currency c (collateralLawful c 1)
   now-unrelated : {c : Collateral} → c .unrelated ≡ 0 → BetterCollateral currency c (collateralUnrelated c 1)
-  now-unreflected : {c : Collateral} → c .unreflected ≡ 0 → BetterCollateral currency c (collateralUnreflected c 1)
+  now-not-in-rating : {c : Collateral} → c .«not_in_rating» ≡ 0 → BetterCollateral currency c (collateralNotInRating c 1)
   now-listed : {c : Collateral} → c .listed ≡ 0 → BetterCollateral currency c (collateralListed c 1)
 
 -- of a guarantee
@@ -39,7 +39,7 @@ pub data BetterGuarantee (currency : ℕ) : Guarantee → Guarantee → Type 0 w
   deal-currency : {g : Guarantee} → BetterGuarantee currency g (guaranteeCurrency g currency)
   now-lawful : {g : Guarantee} → g .lawful ≡ 0 → BetterGuarantee currency g (guaranteeLawful g 1)
   now-direct : {g : Guarantee} → g .direct ≡ 0 → BetterGuarantee currency g (guaranteeDirect g 1)
-  now-unreflected : {g : Guarantee} → g .unreflected ≡ 0 → BetterGuarantee currency g (guaranteeUnreflected g 1)
+  now-not-in-rating : {g : Guarantee} → g .«not_in_rating» ≡ 0 → BetterGuarantee currency g (guaranteeNotInRating g 1)
 
 -- "a smaller step .. of the goods lent"; "a smaller interval"
 pub data BetterTerms : Terms → Terms → Type 0 where
@@ -89,8 +89,8 @@ NeverRaisedBy amount = (before after : Deal) → accepted before ≡ true → Be
 
 -- under one table for all deals, whichever it is
 abbrev pub NeverRaisedUnder : Table → Type 0
-NeverRaisedUnder table = NeverRaisedBy (λ d. reportUnder table d .weighted)
+NeverRaisedUnder table = NeverRaisedBy (λ d. reportUnder table d .rwa)
 
 -- DEMAND 3, of the "weighted amounts that reporting gives"
 abbrev pub NeverRaised : Type 0
-NeverRaised = NeverRaisedBy (λ d. reportOf d .weighted)
+NeverRaised = NeverRaisedBy (λ d. reportOf d .rwa)

@@ -15,7 +15,7 @@ collateralAmount c amount = record {
   original = c .original;
   lawful = c .lawful;
   unrelated = c .unrelated;
-  unreflected = c .unreflected;
+  «not_in_rating» = c .«not_in_rating»;
   listed = c .listed;
 }
 
@@ -28,7 +28,7 @@ collateralStep c step = record {
   original = c .original;
   lawful = c .lawful;
   unrelated = c .unrelated;
-  unreflected = c .unreflected;
+  «not_in_rating» = c .«not_in_rating»;
   listed = c .listed;
 }
 
@@ -41,7 +41,7 @@ collateralCurrency c currency = record {
   original = c .original;
   lawful = c .lawful;
   unrelated = c .unrelated;
-  unreflected = c .unreflected;
+  «not_in_rating» = c .«not_in_rating»;
   listed = c .listed;
 }
 
@@ -54,7 +54,7 @@ collateralResidual c residual = record {
   original = c .original;
   lawful = c .lawful;
   unrelated = c .unrelated;
-  unreflected = c .unreflected;
+  «not_in_rating» = c .«not_in_rating»;
   listed = c .listed;
 }
 
@@ -67,7 +67,7 @@ collateralOriginal c original = record {
   original = original;
   lawful = c .lawful;
   unrelated = c .unrelated;
-  unreflected = c .unreflected;
+  «not_in_rating» = c .«not_in_rating»;
   listed = c .listed;
 }
 
@@ -80,7 +80,7 @@ collateralLawful c lawful = record {
   original = c .original;
   lawful = lawful;
   unrelated = c .unrelated;
-  unreflected = c .unreflected;
+  «not_in_rating» = c .«not_in_rating»;
   listed = c .listed;
 }
 
@@ -93,12 +93,12 @@ collateralUnrelated c unrelated = record {
   original = c .original;
   lawful = c .lawful;
   unrelated = unrelated;
-  unreflected = c .unreflected;
+  «not_in_rating» = c .«not_in_rating»;
   listed = c .listed;
 }
 
-abbrev pub collateralUnreflected : Collateral → ℕ → Collateral
-collateralUnreflected c unreflected = record {
+abbrev pub collateralNotInRating : Collateral → ℕ → Collateral
+collateralNotInRating c «not_in_rating» = record {
   amount = c .amount;
   asset = c .asset;
   currency = c .currency;
@@ -106,7 +106,7 @@ collateralUnreflected c unreflected = record {
   original = c .original;
   lawful = c .lawful;
   unrelated = c .unrelated;
-  unreflected = unreflected;
+  «not_in_rating» = «not_in_rating»;
   listed = c .listed;
 }
 
@@ -119,7 +119,7 @@ collateralListed c listed = record {
   original = c .original;
   lawful = c .lawful;
   unrelated = c .unrelated;
-  unreflected = c .unreflected;
+  «not_in_rating» = c .«not_in_rating»;
   listed = listed;
 }
 
@@ -134,7 +134,7 @@ guaranteeAmount g amount = record {
   original = g .original;
   lawful = g .lawful;
   direct = g .direct;
-  unreflected = g .unreflected;
+  «not_in_rating» = g .«not_in_rating»;
 }
 
 abbrev pub guaranteeStep : Guarantee → ℕ → Guarantee
@@ -146,7 +146,7 @@ guaranteeStep g step = record {
   original = g .original;
   lawful = g .lawful;
   direct = g .direct;
-  unreflected = g .unreflected;
+  «not_in_rating» = g .«not_in_rating»;
 }
 
 abbrev pub guaranteeCurrency : Guarantee → ℕ → Guarantee
@@ -158,7 +158,7 @@ guaranteeCurrency g currency = record {
   original = g .original;
   lawful = g .lawful;
   direct = g .direct;
-  unreflected = g .unreflected;
+  «not_in_rating» = g .«not_in_rating»;
 }
 
 abbrev pub guaranteeResidual : Guarantee → ℕ → Guarantee
@@ -170,7 +170,7 @@ guaranteeResidual g residual = record {
   original = g .original;
   lawful = g .lawful;
   direct = g .direct;
-  unreflected = g .unreflected;
+  «not_in_rating» = g .«not_in_rating»;
 }
 
 abbrev pub guaranteeOriginal : Guarantee → ℕ → Guarantee
@@ -182,7 +182,7 @@ guaranteeOriginal g original = record {
   original = original;
   lawful = g .lawful;
   direct = g .direct;
-  unreflected = g .unreflected;
+  «not_in_rating» = g .«not_in_rating»;
 }
 
 abbrev pub guaranteeLawful : Guarantee → ℕ → Guarantee
@@ -194,7 +194,7 @@ guaranteeLawful g lawful = record {
   original = g .original;
   lawful = lawful;
   direct = g .direct;
-  unreflected = g .unreflected;
+  «not_in_rating» = g .«not_in_rating»;
 }
 
 abbrev pub guaranteeDirect : Guarantee → ℕ → Guarantee
@@ -206,11 +206,11 @@ guaranteeDirect g direct = record {
   original = g .original;
   lawful = g .lawful;
   direct = direct;
-  unreflected = g .unreflected;
+  «not_in_rating» = g .«not_in_rating»;
 }
 
-abbrev pub guaranteeUnreflected : Guarantee → ℕ → Guarantee
-guaranteeUnreflected g unreflected = record {
+abbrev pub guaranteeNotInRating : Guarantee → ℕ → Guarantee
+guaranteeNotInRating g «not_in_rating» = record {
   amount = g .amount;
   provider = g .provider;
   currency = g .currency;
@@ -218,7 +218,7 @@ guaranteeUnreflected g unreflected = record {
   original = g .original;
   lawful = g .lawful;
   direct = g .direct;
-  unreflected = unreflected;
+  «not_in_rating» = «not_in_rating»;
 }
 
 -- Terms

@@ -18,7 +18,7 @@ use Rattle.lines.specs.declared.line.Line.{Line}
 use Rattle.lines.specs.declared.line.Line.the-variants.{DealLine, CollateralLine, GuaranteeLine, Malformed}
 use Rattle.book.specs.Deals.{DealLines}
 use Rattle.book.specs.Answers.{openingRefusal, openedBy, lineRefusal, withLine, linesAnswer, dealAnswer}
-use Rattle.book.specs.Parts.{Answered, byLine, byReport}
+use Rattle.book.specs.Parts.{AnsweredBy, byLine, byReport}
 use Rattle.book.proofs.Answering.{no-more-lines}
 
 -- a refusal that is 40 only of records that are not allowed
@@ -62,19 +62,19 @@ line-allowed d (GuaranteeLine g) h = guarantee-kept-allowed d g h
 line-allowed d (DealLine t) h = h
 line-allowed d Malformed h = h
 
-lines-answered : (opening number : ℕ) (d : Deal) (lines : List (List ℕ)) → recordAllowed d ≡ true → Answered (linesAnswer opening number d lines)
+lines-answered : (opening number : ℕ) (d : Deal) (lines : List (List ℕ)) → recordAllowed d ≡ true → AnsweredBy (linesAnswer opening number d lines)
 unfolding linesAnswer
 lines-answered opening number d [] h = let a = allowed-accepted d h in byReport d a (no-more-lines opening number d a)
 lines-answered opening number d (line ∷ lines) h =
-    either Answered (eqb (lineRefusal d (lineOf line)) 0)
+    either AnsweredBy (eqb (lineRefusal d (lineOf line)) 0)
     (λ e. lines-answered opening (number + 1) (withLine d (lineOf line)) lines (line-allowed d (lineOf line) h))
     (λ e. byLine (lineRefusal d (lineOf line)) number refl e (line-not-40 d (lineOf line) h))
 
 -- so no answer in a book has refusal 40, and none that has refusal 0 reports a record that is not accepted
-pub each-answered : (deal : DealLines) → Answered (dealAnswer deal)
+pub each-answered : (deal : DealLines) → AnsweredBy (dealAnswer deal)
 unfolding dealAnswer
 each-answered deal =
     let line = lineOf (deal .opening) in
-    either Answered (eqb (openingRefusal line) 0)
+    either AnsweredBy (eqb (openingRefusal line) 0)
     (λ e. lines-answered (deal .number) (deal .number + 1) (openedBy line) (deal .further) (opening-allowed line e))
     (λ e. byLine (openingRefusal line) (deal .number) refl e (opening-not-40 line))

@@ -18,22 +18,22 @@ use Rattle.lines.specs.declared.line.Line.{Line}
 use Rattle.lines.specs.declared.line.Line.the-variants.{DealLine, CollateralLine, GuaranteeLine, Malformed}
 use Rattle.book.specs.Deals.{DealLines}
 use Rattle.book.specs.Answers.{openingRefusal, openedBy, lineRefusal, withLine, refusedAt, figuresOf, reported, linesAnswer, dealAnswer, answersFrom}
-use Rattle.book.specs.Working.{termsSaid}
+use Rattle.book.specs.Working.{openingTerms}
 
 -- three numbers, one by one
-pub three : {a b c x y z : ℕ} → a ≡ x → b ≡ y → c ≡ z → a ∷ b ∷ c ∷ [] ≡ x ∷ y ∷ z ∷ []
-three p q r = rw (p, q, r)
+pub componentwise : {a b c x y z : ℕ} → a ≡ x → b ≡ y → c ≡ z → a ∷ b ∷ c ∷ [] ≡ x ∷ y ∷ z ∷ []
+componentwise p q r = rw (p, q, r)
 
 -- the line that opens a deal, by its terms
-opened-by : (line : Line) → openedBy line ≡ openedDeal (termsSaid line)
-unfolding openedBy termsSaid
+opened-by : (line : Line) → openedBy line ≡ openedDeal (openingTerms line)
+unfolding openedBy openingTerms
 opened-by (DealLine t) = refl
 opened-by (CollateralLine c) = refl
 opened-by (GuaranteeLine g) = refl
 opened-by Malformed = refl
 
-pub opening-terms : (line : Line) → openingRefusal line ≡ 0 → termsRefusal (termsSaid line) ≡ 0
-unfolding openingRefusal termsSaid
+pub opening-terms : (line : Line) → openingRefusal line ≡ 0 → termsRefusal (openingTerms line) ≡ 0
+unfolding openingRefusal openingTerms
 opening-terms (DealLine t) e = e
 opening-terms (CollateralLine c) e = absurd (omega (arith, e))
 opening-terms (GuaranteeLine g) e = absurd (omega (arith, e))
@@ -41,7 +41,7 @@ opening-terms Malformed e = absurd (omega (arith, e))
 
 -- a deal's answer from that line on
 pub opened-answer : (deal : DealLines) → openingRefusal (lineOf (deal .opening)) ≡ 0
-    → dealAnswer deal ≡ linesAnswer (deal .number) (deal .number + 1) (openedDeal (termsSaid (lineOf (deal .opening)))) (deal .further)
+    → dealAnswer deal ≡ linesAnswer (deal .number) (deal .number + 1) (openedDeal (openingTerms (lineOf (deal .opening)))) (deal .further)
 unfolding dealAnswer
 opened-answer deal e =
     if-true _ _ _ (eq-eqb _ 0 e)

@@ -24,7 +24,7 @@ use Rattle.book.specs.Answers.{openingRefusal, openedBy, lineRefusal, wi
 use Rattle.book.specs.Heading.{headingOf}
 use Rattle.book.specs.Book.{bookTests, bookRefusal, answeredDeals, bookReply, resultsAfter}
 use Rattle.book.specs.declared.heading.Heading.the-variants.{Edition, Wrong}
-use Rattle.book.specs.declared.reply.Reply.{Reply}
+use Rattle.book.specs.declared.reply.BookReply.{BookReply}
 
 -- `unfolding worked` opens every definition that an answer comes from
 unfoldable pub worked : List ℕ → List ℕ → List ℕ
@@ -49,10 +49,10 @@ headings-read :
 unfolding worked
 headings-read = refl
 
-abbrev refusedBy : ℕ → Reply
+abbrev refusedBy : ℕ → BookReply
 refusedBy refusal = record { refusal = refusal; deals = 0 }
 
-abbrev accepted : ℕ → Reply
+abbrev accepted : ℕ → BookReply
 accepted deals = record { refusal = 0; deals = deals }
 
 -- the header alone asks for no place

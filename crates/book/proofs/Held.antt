@@ -20,8 +20,8 @@ use Rattle.deal.specs.declared.collateral.CollateralList.{CollateralList}
 use Rattle.deal.specs.declared.guarantee.Guarantee.{Guarantee}
 use Rattle.deal.specs.declared.guarantee.GuaranteeList.{GuaranteeList}
 use Rattle.deal.proofs.Deals.{accepted-allowed, allowed-accepted, new-accepted, collateral-by-list, collateral-with, guarantee-by-list, guarantee-with}
-use Rattle.relief.specs.Exposure.{exposureAfter, weightedAmount}
-use Rattle.relief.proofs.Reports.{exposure-of, weighted-of}
+use Rattle.relief.specs.Exposure.{exposureAfter, riskWeightedAmountOf}
+use Rattle.relief.proofs.Reports.{exposure-of, rwa-of}
 use Rattle.lines.specs.Lines.{lineOf}
 use Rattle.lines.specs.declared.line.Line.{Line}
 use Rattle.lines.specs.declared.line.Line.the-variants.{DealLine, CollateralLine, GuaranteeLine, Malformed}
@@ -29,7 +29,7 @@ use Rattle.book.specs.Answers.{malformedLine, lineRefusal, withLine, lin
 use Rattle.book.specs.Deals.{ownLines}
 use Rattle.book.specs.Working.{ownFirst}
 use Rattle.book.proofs.Accepted.{line-allowed}
-use Rattle.book.proofs.Answering.{three, accepted-line, refused-line, no-more-lines}
+use Rattle.book.proofs.Answering.{componentwise, accepted-line, refused-line, no-more-lines}
 use Rattle.book.proofs.Grouping.{own-over}
 use Rattle.book.proofs.Passing.{OwnLine, own-next, Passed, passed-none, passed-line}
 
@@ -88,14 +88,14 @@ module _ (text : List ℕ) (start number : ℕ) (t : Terms) where
   module _ (cs : CollateralList) (gs : GuaranteeList) (at next : ℕ) (h : Held cs gs at next) where
     -- the answer, where no line is left
     pub held-answer : ownFirst (drop at text) ≡ false →
-        whole ≡ 0 ∷ exposureAfter (tableFor t) (viewOf (dealOf t cs gs)) ∷ weightedAmount (tableFor t) (viewOf (dealOf t cs gs)) ∷ []
+        whole ≡ 0 ∷ exposureAfter (tableFor t) (viewOf (dealOf t cs gs)) ∷ riskWeightedAmountOf (tableFor t) (viewOf (dealOf t cs gs)) ∷ []
     held-answer over =
         let d = dealOf t cs gs in
         let a = allowed-accepted d (h .fits) in
         h .answered
         ∙ ap (linesAnswer number next d) (own-over (drop at text) over)
         ∙ no-more-lines number next d a
-        ∙ three refl (exposure-of (tableFor t) d a) (weighted-of (tableFor t) d a)
+        ∙ componentwise refl (exposure-of (tableFor t) d a) (rwa-of (tableFor t) d a)
 
     module _ (end : ℕ) (l : OwnLine text at end) (e : end ≡ at + length (firstLine (drop at text))) {refusal : ℕ} {cs′ : CollateralList} {gs′ : GuaranteeList}
         (done : LineDone t cs gs (lineOf (firstLine (drop at text))) refusal cs′ gs′) where

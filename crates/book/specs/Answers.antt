@@ -54,7 +54,7 @@ refusedAt refusal number = refusal ∷ number ∷ 0 ∷ []
 
 -- the figures of a deal's report
 abbrev pub figuresOf : Deal → List ℕ
-figuresOf d = 0 ∷ reportOf d .exposure ∷ reportOf d .weighted ∷ []
+figuresOf d = 0 ∷ reportOf d .exposure ∷ reportOf d .rwa ∷ []
 
 -- of a deal that the line with this number opened: where reporting refuses, that is said of this line, and never happens in a book
 -- (`each-answered`)

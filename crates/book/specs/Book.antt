@@ -11,7 +11,7 @@ use Rattle.text.specs.Text.{firstLine, linesOf}
 use Rattle.book.specs.Deals.{DealLines, opensDeal, dealsFrom}
 use Rattle.book.specs.Answers.{answersFrom}
 use Rattle.book.specs.Heading.{headingOf, isWrong}
-use Rattle.book.specs.declared.reply.Reply.{Reply}
+use Rattle.book.specs.declared.reply.BookReply.{BookReply}
 
 -- in bytes
 abbrev pub bookLimit : ℕ
@@ -45,11 +45,11 @@ bookRefusal book places = firstMet (bookTests book places)
 unfoldable pub answeredDeals : List ℕ → ℕ → List DealLines
 answeredDeals book places = if eqb (bookRefusal book places) 0 then dealsOf book else []
 
-abbrev pub refusedReply : ℕ → Reply
+abbrev pub refusedReply : ℕ → BookReply
 refusedReply refusal = record { refusal = refusal; deals = 0 }
 
 -- ANSWERING A BOOK. "The reply is the refusal, or 0, and the count of deals written"
-unfoldable pub bookReply : List ℕ → ℕ → Reply
+unfoldable pub bookReply : List ℕ → ℕ → BookReply
 bookReply book places = record { refusal = bookRefusal book places; deals = length (answeredDeals book places) }
 
 -- "written from the front and nothing behind them"

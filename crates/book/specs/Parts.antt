@@ -34,6 +34,6 @@ abbrev pub Parted : List ℕ → List ℕ → Type 0
 Parted first second = (ended first ≡ true) ⊎ (second ≡ [])
 
 -- what a deal is answered by: a refused line, whose refusal is not 40, or the report of an accepted deal
-pub data Answered (answer : List ℕ) : Type 0 where
-  byLine : (refusal number : ℕ) → answer ≡ refusedAt refusal number → eqb refusal 0 ≡ false → eqb refusal 40 ≡ false → Answered answer
-  byReport : (d : Deal) → accepted d ≡ true → answer ≡ figuresOf d → Answered answer
+pub data AnsweredBy (answer : List ℕ) : Type 0 where
+  byLine : (refusal number : ℕ) → answer ≡ refusedAt refusal number → eqb refusal 0 ≡ false → eqb refusal 40 ≡ false → AnsweredBy answer
+  byReport : (d : Deal) → accepted d ≡ true → answer ≡ figuresOf d → AnsweredBy answer

@@ -12,11 +12,11 @@ use Rattle.lines.specs.declared.line.Line.the-variants.{DealLine, CollateralLin
 use Rattle.book.specs.Deals.{DealLines, opensDeal, ownLines, dealsFrom}
 
 -- the terms on the line that opens a deal, zeros where it is no line D
-unfoldable pub termsSaid : Line → Terms
-termsSaid (DealLine terms) = terms
-termsSaid (CollateralLine c) = termsOf 0 0 0 0 0 0 0 0 0 0
-termsSaid (GuaranteeLine g) = termsOf 0 0 0 0 0 0 0 0 0 0
-termsSaid Malformed = termsOf 0 0 0 0 0 0 0 0 0 0
+unfoldable pub openingTerms : Line → Terms
+openingTerms (DealLine terms) = terms
+openingTerms (CollateralLine c) = termsOf 0 0 0 0 0 0 0 0 0 0
+openingTerms (GuaranteeLine g) = termsOf 0 0 0 0 0 0 0 0 0 0
+openingTerms Malformed = termsOf 0 0 0 0 0 0 0 0 0 0
 
 -- whether a text starts with a line that opens no deal
 unfoldable pub ownFirst : List ℕ → Bool

@@ -9,10 +9,10 @@ ghost use Rattle.book.specs.Book.{bookReply, overwrite, resultsAfter};
 ghost use Rattle.book.specs.Deals.{dealsFrom};
 ghost use Rattle.book.specs.Working.{ownFirst};
 use crate::reading::answer_deal;
-use crate::reply::Reply;
+use crate::reply::BookReply;
 use crate::reply::reply_to;
 use crate::results::put_answer;
-use relief::roots::Roots;
+use relief::factors::TimeFactors;
 use text::line_end;
 
 // The answers to the deals among a book's lines, from the front of the list.
@@ -22,10 +22,10 @@ fn answer_deals(lines: &[u8], results: &mut [u64])
 {
     let mut at: usize = 0;
     let mut number: u64 = 2;
-    let mut roots = Roots::NONE;
+    let mut factors = TimeFactors::NONE;
     let mut deals: usize = 0;
     while at < lines.len() {
-        let answered = answer_deal(&lines[at..], number, roots);
+        let answered = answer_deal(&lines[at..], number, factors);
         let answer = answered.answer;
         put_answer(
             results,
@@ -33,17 +33,17 @@ fn answer_deals(lines: &[u8], results: &mut [u64])
             deals as u64 + 1,
             answer.refusal,
             answer.figure,
-            answer.weighted,
+            answer.rwa,
         );
         at += answer.end;
         number = answer.next;
-        roots = answered.roots;
+        factors = answered.factors;
         deals += 1;
     }
 }
 
 // Answering a book: four numbers a deal, from the front of the list, which stays as it was where the book is refused.
-pub fn answer_book(book: &[u8], results: &mut [u64]) -> Reply
+pub fn answer_book(book: &[u8], results: &mut [u64]) -> BookReply
     ensures { λ r. ⌜ (r ≡ bookReply (now (book .entry)) (length (now (results .entry)))) × (now (results .exit) ≡ resultsAfter (now (book .entry)) (now (results .entry))) ⌝ }
 {
     let reply = reply_to(book, results.len());

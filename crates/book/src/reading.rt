@@ -7,14 +7,14 @@ ghost use lib.ListN.{drop, length};
 ghost use Rattle.text.specs.Text.{linesOf};
 ghost use Rattle.deal.specs.Deals.{openedDeal};
 ghost use Rattle.deal.specs.Terms.{termsRefusal};
-ghost use Rattle.relief.specs.Working.{BothRooted, RootsOf};
+ghost use Rattle.relief.specs.Working.{BothTimeFactors, TimeFactorsOf};
 ghost use Rattle.book.specs.Answers.{dealAnswer, linesAnswer};
 ghost use Rattle.book.specs.Deals.{opensDeal, ownLines};
 ghost use Rattle.book.specs.Working.{DealRead, LinesRead, firstDeal, ownFirst};
 use crate::deals::opens_deal;
 use crate::refusal::MALFORMED;
 use crate::refusal::opening_refusal;
-use crate::refusal::terms_said;
+use crate::refusal::opening_terms;
 use deal::collateral::CollateralList;
 use deal::guarantee::GuaranteeList;
 use deal::terms::Terms;
@@ -22,23 +22,23 @@ use lines::line::Line;
 use lines::line::read_line;
 use relief::bare::bare_amounts;
 use relief::report::full_report;
-use relief::roots::Roots;
+use relief::factors::TimeFactors;
 use text::line_end;
 
-pub struct DealAnswer {
+pub struct DealResult {
     pub refusal: u64,
     // The exposure after collateral, or the number of the refused line.
     pub figure: u64,
-    pub weighted: u64,
+    pub rwa: u64,
     // Where the deal's lines end, and the number of the line there.
     pub end: usize,
     pub next: u64,
 }
 
 // A deal's answer, and the roots of its periods, which the next deal may share.
-pub struct Answered {
-    pub answer: DealAnswer,
-    pub roots: Roots,
+pub struct ResultAndFactors {
+    pub answer: DealResult,
+    pub factors: TimeFactors,
 }
 
 // Whether a line starts here that opens no other deal.
@@ -53,9 +53,9 @@ pub fn own_line(text: &[u8], at: usize) -> bool
 }
 
 // A deal that is refused at the line with this number. The lines behind that one are only counted.
-fn refused(text: &[u8], start: usize, number: u64, refusal: u64) -> DealAnswer
+fn refused(text: &[u8], start: usize, number: u64, refusal: u64) -> DealResult
     requires { ⌜ (start ≤ length (now text)) × (number + length (now text) ≤ 65536 + start) ⌝ }
-    ensures { λ r. ⌜ (r .refusal ≡ refusal) × ((r .figure ≡ number) × (r .weighted ≡ 0)) ⌝ }
+    ensures { λ r. ⌜ (r .refusal ≡ refusal) × ((r .figure ≡ number) × (r .rwa ≡ 0)) ⌝ }
     ensures { λ r. ⌜ LinesRead (now (text .entry)) start (number + 1) (r .end) (r .next) ⌝ }
 {
     let mut at = start;
@@ -64,34 +64,34 @@ fn refused(text: &[u8], start: usize, number: u64, refusal: u64) -> DealAnswer
         at = line_end(text, at);
         next += 1;
     }
-    DealAnswer {
+    DealResult {
         refusal,
         figure: number,
-        weighted: 0,
+        rwa: 0,
         end: at,
         next,
     }
 }
 
 // A deal whose lines are read, with the figures of its report.
-fn with_figures(exposure: u64, weighted: u64, end: usize, next: u64) -> DealAnswer
-    ensures { λ r. ⌜ (r .refusal ≡ 0) × ((r .figure ≡ exposure) × ((r .weighted ≡ weighted) × ((r .end ≡ end) × (r .next ≡ next)))) ⌝ }
+fn with_figures(exposure: u64, rwa: u64, end: usize, next: u64) -> DealResult
+    ensures { λ r. ⌜ (r .refusal ≡ 0) × ((r .figure ≡ exposure) × ((r .rwa ≡ rwa) × ((r .end ≡ end) × (r .next ≡ next)))) ⌝ }
 {
-    DealAnswer {
+    DealResult {
         refusal: 0,
         figure: exposure,
-        weighted,
+        rwa,
         end,
         next,
     }
 }
 
 // A deal opened on these terms by the line with this number, from its further lines on. Each goes into its list as adding does it.
-fn with_items(text: &[u8], start: usize, number: u64, terms: Terms, roots: Roots) -> DealAnswer
+fn with_items(text: &[u8], start: usize, number: u64, terms: Terms, factors: TimeFactors) -> DealResult
     requires { ⌜ (termsRefusal terms ≡ 0) × ((start ≤ length (now text)) × (number + 1 + length (now text) ≤ 65536 + start)) ⌝ }
-    requires { ⌜ RootsOf terms roots ⌝ }
+    requires { ⌜ TimeFactorsOf terms factors ⌝ }
     ensures { λ r. ⌜ LinesRead (now (text .entry)) start (number + 1) (r .end) (r .next) ⌝ }
-    ensures { λ r. ⌜ linesAnswer number (number + 1) (openedDeal terms) (ownLines (linesOf (drop start (now (text .entry))))) ≡ r .refusal ∷ r .figure ∷ r .weighted ∷ [] ⌝ }
+    ensures { λ r. ⌜ linesAnswer number (number + 1) (openedDeal terms) (ownLines (linesOf (drop start (now (text .entry))))) ≡ r .refusal ∷ r .figure ∷ r .rwa ∷ [] ⌝ }
 {
     let mut collateral = CollateralList::empty();
     let mut guarantees = GuaranteeList::empty();
@@ -123,40 +123,40 @@ fn with_items(text: &[u8], start: usize, number: u64, terms: Terms, roots: Roots
         at = end;
         next += 1;
     }
-    let report = full_report(terms, collateral, guarantees, roots);
-    with_figures(report.exposure, report.weighted, at, next)
+    let report = full_report(terms, collateral, guarantees, factors);
+    with_figures(report.exposure, report.rwa, at, next)
 }
 
 // The same, where the deal may have no further line: its amounts then need no list.
-fn opened(text: &[u8], start: usize, number: u64, terms: Terms, roots: Roots) -> DealAnswer
+fn opened(text: &[u8], start: usize, number: u64, terms: Terms, factors: TimeFactors) -> DealResult
     requires { ⌜ (termsRefusal terms ≡ 0) × ((start ≤ length (now text)) × (number + 1 + length (now text) ≤ 65536 + start)) ⌝ }
-    requires { ⌜ RootsOf terms roots ⌝ }
+    requires { ⌜ TimeFactorsOf terms factors ⌝ }
     ensures { λ r. ⌜ LinesRead (now (text .entry)) start (number + 1) (r .end) (r .next) ⌝ }
-    ensures { λ r. ⌜ linesAnswer number (number + 1) (openedDeal terms) (ownLines (linesOf (drop start (now (text .entry))))) ≡ r .refusal ∷ r .figure ∷ r .weighted ∷ [] ⌝ }
+    ensures { λ r. ⌜ linesAnswer number (number + 1) (openedDeal terms) (ownLines (linesOf (drop start (now (text .entry))))) ≡ r .refusal ∷ r .figure ∷ r .rwa ∷ [] ⌝ }
 {
     if own_line(text, start) {
-        return with_items(text, start, number, terms, roots);
+        return with_items(text, start, number, terms, factors);
     }
-    let amounts = bare_amounts(terms, roots.deal);
-    with_figures(amounts.exposure, amounts.weighted, start, number + 1)
+    let amounts = bare_amounts(terms, factors.deal);
+    with_figures(amounts.exposure, amounts.rwa, start, number + 1)
 }
 
 // The answer to the deal that a text starts with, given some roots.
-pub fn answer_deal(text: &[u8], number: u64, roots: Roots) -> Answered
+pub fn answer_deal(text: &[u8], number: u64, factors: TimeFactors) -> ResultAndFactors
     requires { ⌜ (opensDeal (now text) ≡ true) × (number + length (now text) ≤ 65536) ⌝ }
-    requires { ⌜ BothRooted roots ⌝ }
-    ensures { λ r. ⌜ DealRead number (now (text .entry)) (r .answer .end) (r .answer .next) × (dealAnswer (firstDeal number (now (text .entry))) ≡ r .answer .refusal ∷ r .answer .figure ∷ r .answer .weighted ∷ []) ⌝ }
-    ensures { λ r. ⌜ BothRooted (r .roots) ⌝ }
+    requires { ⌜ BothTimeFactors factors ⌝ }
+    ensures { λ r. ⌜ DealRead number (now (text .entry)) (r .answer .end) (r .answer .next) × (dealAnswer (firstDeal number (now (text .entry))) ≡ r .answer .refusal ∷ r .answer .figure ∷ r .answer .rwa ∷ []) ⌝ }
+    ensures { λ r. ⌜ BothTimeFactors (r .factors) ⌝ }
 {
     let end = line_end(text, 0);
     let line = read_line(&text[..end]);
     let refusal = opening_refusal(line);
     if refusal != 0 {
         let answer = refused(text, end, number, refusal);
-        return Answered { answer, roots };
+        return ResultAndFactors { answer, factors };
     }
-    let terms = terms_said(line);
-    let roots = roots.for_terms(terms);
-    let answer = opened(text, end, number, terms, roots);
-    Answered { answer, roots }
+    let terms = opening_terms(line);
+    let factors = factors.for_terms(terms);
+    let answer = opened(text, end, number, terms, factors);
+    ResultAndFactors { answer, factors }
 }

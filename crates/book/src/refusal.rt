@@ -1,7 +1,7 @@
 // What the line that opens a deal says, and how it is refused.
 ghost use mathlib.Core.Path.{_≡_};
 ghost use Rattle.book.specs.Answers.{openingRefusal};
-ghost use Rattle.book.specs.Working.{termsSaid};
+ghost use Rattle.book.specs.Working.{openingTerms};
 use deal::terms::Terms;
 use lines::line::Line;
 
@@ -24,8 +24,8 @@ pub fn opening_refusal(line: Line) -> u64
 }
 
 // The terms on it, or zeros where it is no such line.
-pub fn terms_said(line: Line) -> Terms
-    ensures { λ r. ⌜ r ≡ termsSaid line ⌝ }
+pub fn opening_terms(line: Line) -> Terms
+    ensures { λ r. ⌜ r ≡ openingTerms line ⌝ }
 {
     match line {
         Line::DealLine(terms) => terms,

@@ -16,21 +16,21 @@ const NO_DEAL_FIRST: u64 = 12;
 
 const LIST_TOO_SHORT: u64 = 13;
 
-pub struct Reply {
+pub struct BookReply {
     // The refusal of the whole book, or 0.
     pub refusal: u64,
     // How many deals are answered.
     pub deals: usize,
 }
 
-fn refused(refusal: u64) -> Reply
+fn refused(refusal: u64) -> BookReply
     ensures { λ r. ⌜ r ≡ refusedReply refusal ⌝ }
 {
-    Reply { refusal, deals: 0 }
+    BookReply { refusal, deals: 0 }
 }
 
 // The reply to a book, for a results list with so many places.
-pub fn reply_to(book: &[u8], places: usize) -> Reply
+pub fn reply_to(book: &[u8], places: usize) -> BookReply
     ensures { λ r. ⌜ r ≡ bookReply (now (book .entry)) places ⌝ }
 {
     if book.len() > BYTE_LIMIT {
@@ -48,5 +48,5 @@ pub fn reply_to(book: &[u8], places: usize) -> Reply
     if places / 4 < deals {
         return refused(LIST_TOO_SHORT);
     }
-    Reply { refusal: 0, deals }
+    BookReply { refusal: 0, deals }
 }

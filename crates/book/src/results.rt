@@ -11,13 +11,13 @@ pub fn put_answer(
     serial: u64,
     refusal: u64,
     figure: u64,
-    weighted: u64,
+    rwa: u64,
 )
     requires { ⌜ at + 4 ≤ length (now results) ⌝ }
-    ensures { λ _. ⌜ now (results .exit) ≡ take at (now (results .entry)) ++ (serial ∷ refusal ∷ figure ∷ weighted ∷ []) ++ drop (at + 4) (now (results .entry)) ⌝ }
+    ensures { λ _. ⌜ now (results .exit) ≡ take at (now (results .entry)) ++ (serial ∷ refusal ∷ figure ∷ rwa ∷ []) ++ drop (at + 4) (now (results .entry)) ⌝ }
 {
     results[at] = serial;
     results[at + 1] = refusal;
     results[at + 2] = figure;
-    results[at + 3] = weighted;
+    results[at + 3] = rwa;
 }

@@ -13,9 +13,9 @@ use Rattle.base.specs.Choice.{if_then_else_}
 use Rattle.base.specs.Sum.{sumOf}
 use Rattle.base.proofs.Choice.{either, if-true, if-false}
 use Rattle.base.proofs.Sum.{sum-take}
-use Rattle.cover.specs.Cover.{lighter, equal, before}
+use Rattle.cover.specs.Cover.{lowerWeighted, equal, before}
 use Rattle.cover.specs.declared.protection.Protection.{Protection}
-use Rattle.cover.proofs.Levels.{side, lighter-in, lighter-out, lighter-le, lighter-next, equal-in, equal-out}
+use Rattle.cover.proofs.Levels.{side, lower-weighted-in, lower-weighted-out, lower-weighted-le, lower-weighted-next, equal-in, equal-out}
 
 -- what an array is read as past its end
 abbrev pub none : Protection
@@ -23,28 +23,28 @@ none = record { value = 0; weight = 0 }
 
 -- what of one piece covers before one of weight w
 abbrev pub ahead : ℕ → Protection → Bool → ℕ
-ahead w p earlier = lighter w p + (if earlier then equal w p else 0)
+ahead w p earlier = lowerWeighted w p + (if earlier then equal w p else 0)
 
 module _ (w : ℕ) (p : Protection) (earlier : Bool) where
   not-equal : equal w p ≡ 0 → (if earlier then equal w p else 0) ≡ 0
   not-equal e = either (λ x. x ≡ 0) earlier (λ t. e) (λ t. refl)
 
-  pub ahead-lighter : p .weight < w → ahead w p earlier ≡ p .value
-  ahead-lighter h = omega (arith, lighter-in w p h, not-equal (equal-out w p (λ e. omega arith)))
+  pub ahead-lower-weighted : p .weight < w → ahead w p earlier ≡ p .value
+  ahead-lower-weighted h = omega (arith, lower-weighted-in w p h, not-equal (equal-out w p (λ e. omega arith)))
 
   pub ahead-heavier : w < p .weight → ahead w p earlier ≡ 0
-  ahead-heavier h = omega (arith, lighter-out w p (omega arith), not-equal (equal-out w p (λ e. omega arith)))
+  ahead-heavier h = omega (arith, lower-weighted-out w p (omega arith), not-equal (equal-out w p (λ e. omega arith)))
 
   pub ahead-earlier : p .weight ≡ w → earlier ≡ true → ahead w p earlier ≡ p .value
-  ahead-earlier h e = omega (arith, lighter-out w p (omega arith), if-true earlier (equal w p) 0 e, equal-in w p h)
+  ahead-earlier h e = omega (arith, lower-weighted-out w p (omega arith), if-true earlier (equal w p) 0 e, equal-in w p h)
 
   pub ahead-later : p .weight ≡ w → earlier ≡ false → ahead w p earlier ≡ 0
-  ahead-later h e = omega (arith, lighter-out w p (omega arith), if-false earlier (equal w p) 0 e)
+  ahead-later h e = omega (arith, lower-weighted-out w p (omega arith), if-false earlier (equal w p) 0 e)
 
   pub ahead-le : ahead w p earlier ≤ p .value
   ahead-le =
-      either (λ x. lighter w p + x ≤ p .value) earlier (λ t. omega (arith, lighter-next w p, lighter-le (suc w) p))
-      (λ t. omega (arith, lighter-le w p))
+      either (λ x. lowerWeighted w p + x ≤ p .value) earlier (λ t. omega (arith, lower-weighted-next w p, lower-weighted-le (suc w) p))
+      (λ t. omega (arith, lower-weighted-le w p))
 
 -- one element more, of those before a place
 earlier-more : {A : Type 0} (f : A → ℕ) (xs : List A) (i place : ℕ) (d : A) → i < length xs →
@@ -70,12 +70,12 @@ earlier-more f xs i place d h = ⊎-elim in-front past (side i place)
 
 -- the sum over the first i pieces
 abbrev pub aheadTo : ℕ → List Protection → ℕ → ℕ → ℕ
-aheadTo w ps place i = sumOf (lighter w) (take i ps) + sumOf (equal w) (take i (take place ps))
+aheadTo w ps place i = sumOf (lowerWeighted w) (take i ps) + sumOf (equal w) (take i (take place ps))
 
 module _ (w : ℕ) (ps : List Protection) (place i : ℕ) where
   pub ahead-more : (d : Protection) (sum more : ℕ) → i < length ps → more ≡ ahead w (getD ps i d) (ltb i place) → sum ≡ aheadTo w ps place i →
       sum + more ≡ aheadTo w ps place (i + 1)
-  ahead-more d sum more h e s = omega (arith, sum-take (lighter w) ps i d h, earlier-more (equal w) ps i place d h)
+  ahead-more d sum more h e s = omega (arith, sum-take (lowerWeighted w) ps i d h, earlier-more (equal w) ps i place d h)
 
   pub ahead-all : place ≤ i → aheadTo w ps place i ≡ before w (take i ps) (take place ps)
   unfolding before

@@ -11,8 +11,8 @@ use Rattle.base.specs.Places.{inPlaces}
 use Rattle.base.specs.Sum.{sumOf}
 use Rattle.base.proofs.Places.{fill-more, placed}
 use Rattle.base.proofs.Sum.{sum-take, sum-take-le}
-use Rattle.cover.specs.Cover.{before, portion, covered, rest, weightedSum, coverOf}
-use Rattle.cover.specs.Limits.{small}
+use Rattle.cover.specs.Cover.{before, portion, covered, uncovered, weightedSum, coverOf}
+use Rattle.cover.specs.Limits.{withinLimits}
 use Rattle.cover.specs.declared.protection.Cover.{Cover}
 use Rattle.cover.specs.declared.protection.Protection.{Protection}
 use Rattle.cover.proofs.Ahead.{none}
@@ -33,7 +33,7 @@ module _ {E : ℕ} {ps : List Protection} {portions : List ℕ} {left sum i : �
   pub left-le : left ≤ E
   left-le = omega (arith, s .taken-off)
 
-  pub sum-le : E ≤ 1000000000000 → allPass ps small ≡ true → sum ≤ 1000000000000000
+  pub sum-le : E ≤ 1000000000000 → allPass ps withinLimits ≡ true → sum ≤ 1000000000000000
   sum-le h a =
       omega (
         arith,
@@ -63,14 +63,14 @@ module _ {E : ℕ} {ps : List Protection} {portions : List ℕ} {left sum i : �
 
   -- after the last piece: what is left is the rest, and all is weighed but that
   pub covering-all : (W total : ℕ) → length ps ≡ i → total ≡ sum + left * W →
-      _≡_ {A = Cover} (record { portions = portions; rest = left; «weighted_sum» = total }) (coverOf W E ps)
+      _≡_ {A = Cover} (record { portions = portions; uncovered = left; «weighted_sum» = total }) (coverOf W E ps)
   unfolding weightedSum
   covering-all W total e t =
       let whole : take i (covered E ps) ≡ covered E ps = take-all i (covered E ps) (omega (arith, covered-length E ps)) in
       let all-placed : portions ≡ inPlaces 16 0 (map (λ p. p .value) (covered E ps)) =
       (rw whole at (s .in-place)) ∙
       placed 16 i 0 (map (λ p. p .value) (covered E ps)) (length-map (covered E ps) (λ p. p .value) ∙ covered-length E ps ∙ e) in
-      let off : left ≡ rest E ps = omega (arith, rw whole at (s .taken-off), conserved E ps) in
+      let off : left ≡ uncovered E ps = omega (arith, rw whole at (s .taken-off), conserved E ps) in
       rw (all-placed, t, off, s .weighed, whole)
 
 -- the next piece, as the code finds it

@@ -5,32 +5,32 @@ use mathlib.Core.List.{List, [], _∷_}
 use native.Mathlib.Nat.{mul-le-mul-left, mul-le-mul-right, le-trans}
 use native.Mathlib.Omega.{arith}
 use Rattle.base.specs.Sum.{sumOf}
-use Rattle.cover.specs.Cover.{lighter, covered, coveredAfter, rest, weightedSum}
-use Rattle.cover.specs.Layers.{Each, EachLighter}
+use Rattle.cover.specs.Cover.{lowerWeighted, covered, coveredAfter, uncovered, weightedSum}
+use Rattle.cover.specs.Layers.{Each, EachLowerWeighted}
 use Rattle.cover.specs.declared.protection.Protection.{Protection}
 use Rattle.cover.proofs.Portions.{each-covered, portions-le}
 use Rattle.cover.proofs.Layers.{weighted-layers}
 use Rattle.cover.proofs.SumBelow.{below-mono, below-same}
 
 -- no less exposure, and no more protection up to any weight below the counterparty's: no smaller sum
-pub weighted-mono : (W E E′ : ℕ) (ps ps′ : List Protection) → EachLighter W ps → EachLighter W ps′ → E ≤ E′ →
-    ((l : ℕ) → l < W → sumOf (lighter (suc l)) ps′ ≤ sumOf (lighter (suc l)) ps) → weightedSum W E ps ≤ weightedSum W E′ ps′
+pub weighted-mono : (W E E′ : ℕ) (ps ps′ : List Protection) → EachLowerWeighted W ps → EachLowerWeighted W ps′ → E ≤ E′ →
+    ((l : ℕ) → l < W → sumOf (lowerWeighted (suc l)) ps′ ≤ sumOf (lowerWeighted (suc l)) ps) → weightedSum W E ps ≤ weightedSum W E′ ps′
 weighted-mono W E E′ ps ps′ h h′ e less =
     omega (
       arith,
       weighted-layers W E ps h,
       weighted-layers W E′ ps′ h′,
-      below-mono W (λ l. E - sumOf (lighter (suc l)) ps) (λ l. E′ - sumOf (lighter (suc l)) ps′) (λ l k. omega (arith, less l k)),
+      below-mono W (λ l. E - sumOf (lowerWeighted (suc l)) ps) (λ l. E′ - sumOf (lowerWeighted (suc l)) ps′) (λ l k. omega (arith, less l k)),
     )
 
 -- protection never costs
-pub weighted-bound : (W E : ℕ) (ps : List Protection) → EachLighter W ps → weightedSum W E ps ≤ E * W
+pub weighted-bound : (W E : ℕ) (ps : List Protection) → EachLowerWeighted W ps → weightedSum W E ps ≤ E * W
 weighted-bound W E ps h =
-    omega (arith, weighted-layers W E ps h, below-mono W (λ l. E - sumOf (lighter (suc l)) ps) (λ l. E) (λ l k. omega arith), below-same W E)
+    omega (arith, weighted-layers W E ps h, below-mono W (λ l. E - sumOf (lowerWeighted (suc l)) ps) (λ l. E) (λ l k. omega arith), below-same W E)
 
 -- nothing covers: all of E bears the counterparty's weight
-all-left : (E : ℕ) → rest E [] ≡ E
-unfolding rest sumOf
+all-left : (E : ℕ) → uncovered E [] ≡ E
+unfolding uncovered sumOf
 all-left E = omega arith
 
 pub none-covers : (W E : ℕ) → weightedSum W E [] ≡ E * W

@@ -10,10 +10,10 @@ use borrow.Author.Tests.{lt-ltb, le-ltb, eq-eqb, ne-eqb}
 use Rattle.base.specs.Choice.{if_then_else_}
 use Rattle.base.specs.Sum.{sumOf}
 use Rattle.base.proofs.Sum.{sum-append}
-use Rattle.cover.specs.Cover.{lighter, equal, before}
+use Rattle.cover.specs.Cover.{lowerWeighted, equal, before}
 use Rattle.cover.specs.declared.protection.Protection.{Protection}
 -- the worked examples are checked before the laws
-use Rattle.cover.proofs.Examples.{later-lighter-portions, two-equal-portions, unrounded}
+use Rattle.cover.proofs.Examples.{later-lower-weighted-portions, two-equal-portions, unrounded}
 
 pub side : (a b : ℕ) → (a < b) ⊎ (b ≤ a)
 side a b = go (decLe b a)
@@ -23,16 +23,16 @@ side a b = go (decLe b a)
     go (no h) = inl (lt-of-not-le h)
 
 module _ (w : ℕ) (p : Protection) where
-  pub lighter-in : p .weight < w → lighter w p ≡ p .value
-  unfolding lighter if_then_else_
-  lighter-in h = rw (lt-ltb (p .weight) w h)
+  pub lower-weighted-in : p .weight < w → lowerWeighted w p ≡ p .value
+  unfolding lowerWeighted if_then_else_
+  lower-weighted-in h = rw (lt-ltb (p .weight) w h)
 
-  pub lighter-out : w ≤ p .weight → lighter w p ≡ 0
-  unfolding lighter if_then_else_
-  lighter-out h = rw (le-ltb (p .weight) w h)
+  pub lower-weighted-out : w ≤ p .weight → lowerWeighted w p ≡ 0
+  unfolding lowerWeighted if_then_else_
+  lower-weighted-out h = rw (le-ltb (p .weight) w h)
 
-  pub lighter-le : lighter w p ≤ p .value
-  lighter-le = ⊎-elim (λ h. omega (arith, lighter-in h)) (λ h. omega (arith, lighter-out h)) (side (p .weight) w)
+  pub lower-weighted-le : lowerWeighted w p ≤ p .value
+  lower-weighted-le = ⊎-elim (λ h. omega (arith, lower-weighted-in h)) (λ h. omega (arith, lower-weighted-out h)) (side (p .weight) w)
 
   pub equal-in : p .weight ≡ w → equal w p ≡ p .value
   unfolding equal if_then_else_
@@ -43,37 +43,37 @@ module _ (w : ℕ) (p : Protection) where
   equal-out h = rw (ne-eqb (p .weight) w h)
 
 -- what weighs at most w weighs less, or as much
-pub lighter-next : (w : ℕ) (p : Protection) → lighter (suc w) p ≡ lighter w p + equal w p
-lighter-next w p = go (ℕ-discrete (p .weight) w)
+pub lower-weighted-next : (w : ℕ) (p : Protection) → lowerWeighted (suc w) p ≡ lowerWeighted w p + equal w p
+lower-weighted-next w p = go (ℕ-discrete (p .weight) w)
   where
-    go : Dec (p .weight ≡ w) → lighter (suc w) p ≡ lighter w p + equal w p
-    go (yes e) = omega (arith, equal-in w p e, lighter-in (suc w) p (omega arith), lighter-out w p (omega arith))
+    go : Dec (p .weight ≡ w) → lowerWeighted (suc w) p ≡ lowerWeighted w p + equal w p
+    go (yes e) = omega (arith, equal-in w p e, lower-weighted-in (suc w) p (omega arith), lower-weighted-out w p (omega arith))
     go (no n) =
-        ⊎-elim (λ h. omega (arith, equal-out w p n, lighter-in (suc w) p (omega arith), lighter-in w p h))
-        (λ h. omega (arith, equal-out w p n, lighter-out (suc w) p (omega arith), lighter-out w p h)) (side (p .weight) w)
+        ⊎-elim (λ h. omega (arith, equal-out w p n, lower-weighted-in (suc w) p (omega arith), lower-weighted-in w p h))
+        (λ h. omega (arith, equal-out w p n, lower-weighted-out (suc w) p (omega arith), lower-weighted-out w p h)) (side (p .weight) w)
 
-pub level-next : (w : ℕ) (ps : List Protection) → sumOf (lighter (suc w)) ps ≡ sumOf (lighter w) ps + sumOf (equal w) ps
+pub level-next : (w : ℕ) (ps : List Protection) → sumOf (lowerWeighted (suc w)) ps ≡ sumOf (lowerWeighted w) ps + sumOf (equal w) ps
 unfolding sumOf
 level-next w [] = refl
-level-next w (p ∷ ps) = omega (arith, level-next w ps, lighter-next w p)
+level-next w (p ∷ ps) = omega (arith, level-next w ps, lower-weighted-next w p)
 
-pub level-zero : (ps : List Protection) → sumOf (lighter 0) ps ≡ 0
+pub level-zero : (ps : List Protection) → sumOf (lowerWeighted 0) ps ≡ 0
 unfolding sumOf
 level-zero [] = refl
-level-zero (p ∷ ps) = omega (arith, level-zero ps, lighter-out 0 p (omega arith))
+level-zero (p ∷ ps) = omega (arith, level-zero ps, lower-weighted-out 0 p (omega arith))
 
 -- above the heaviest piece everything counts
 unfoldable pub top : List Protection → ℕ
 top [] = 0
 top (p ∷ ps) = max (suc (p .weight)) (top ps)
 
-pub level-top : (w : ℕ) (ps : List Protection) → top ps ≤ w → sumOf (lighter w) ps ≡ sumOf (λ p. p .value) ps
+pub level-top : (w : ℕ) (ps : List Protection) → top ps ≤ w → sumOf (lowerWeighted w) ps ≡ sumOf (λ p. p .value) ps
 unfolding sumOf top
 level-top w [] h = refl
-level-top w (p ∷ ps) h = omega (arith, level-top w ps (omega arith), lighter-in w p (omega arith))
+level-top w (p ∷ ps) h = omega (arith, level-top w ps (omega arith), lower-weighted-in w p (omega arith))
 
--- before the first piece of a weight stand the lighter ones
-pub before-none : (w : ℕ) (all : List Protection) → before w all [] ≡ sumOf (lighter w) all
+-- before the first piece of a weight stand the lower-weighted ones
+pub before-none : (w : ℕ) (all : List Protection) → before w all [] ≡ sumOf (lowerWeighted w) all
 unfolding before sumOf
 before-none w all = omega arith
 
@@ -83,9 +83,9 @@ unfolding before sumOf
 before-next w all earlier p = omega (arith, sum-append (equal w) earlier (p ∷ []))
 
 -- more value, no more weight: no less below any weight
-pub lighter-mono : (w : ℕ) (p p′ : Protection) → p .value ≤ p′ .value → p′ .weight ≤ p .weight → lighter w p ≤ lighter w p′
-lighter-mono w p p′ hv hw =
+pub lower-weighted-mono : (w : ℕ) (p p′ : Protection) → p .value ≤ p′ .value → p′ .weight ≤ p .weight → lowerWeighted w p ≤ lowerWeighted w p′
+lower-weighted-mono w p p′ hv hw =
     ⊎-elim
-    (λ (h : p .weight < w). omega (arith, lighter-in w p h, lighter-in w p′ (omega arith)))
-    (λ (h : w ≤ p .weight). omega (arith, lighter-out w p h))
+    (λ (h : p .weight < w). omega (arith, lower-weighted-in w p h, lower-weighted-in w p′ (omega arith)))
+    (λ (h : w ≤ p .weight). omega (arith, lower-weighted-out w p h))
     (side (p .weight) w)

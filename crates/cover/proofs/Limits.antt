@@ -8,15 +8,15 @@ use borrow.Author.Tests.{leb-true}
 use Rattle.base.specs.All.{allPass}
 use Rattle.base.proofs.Every.{both}
 use Rattle.cover.specs.Layers.{Each}
-use Rattle.cover.specs.Limits.{small}
+use Rattle.cover.specs.Limits.{withinLimits}
 use Rattle.cover.specs.declared.protection.Protection.{Protection}
 
-pub small-bounds : (p : Protection) → small p ≡ true → (p .value ≤ 1000000000000) × (p .weight ≤ 1000)
-unfolding small
+pub small-bounds : (p : Protection) → withinLimits p ≡ true → (p .value ≤ 1000000000000) × (p .weight ≤ 1000)
+unfolding withinLimits
 small-bounds p e =
     let b = both (leb (p .value) 1000000000000) (leb (p .weight) 1000) e in
     (leb-true (p .value) 1000000000000 (b .0), leb-true (p .weight) 1000 (b .1))
 
-pub each-small : (ps : List Protection) → allPass ps small ≡ true → Each (λ p. p .weight ≤ 1000) ps
+pub each-small : (ps : List Protection) → allPass ps withinLimits ≡ true → Each (λ p. p .weight ≤ 1000) ps
 each-small [] e = tt
-each-small (p ∷ ps) e = let b = both (small p) (allPass ps small) e in (small-bounds p (b .0) .1, each-small ps (b .1))
+each-small (p ∷ ps) e = let b = both (withinLimits p) (allPass ps withinLimits) e in (small-bounds p (b .0) .1, each-small ps (b .1))

@@ -12,11 +12,11 @@ use borrow.Author.Tests.{leb-true, leb-false, eq-eqb, ne-eqb}
 use Rattle.base.specs.Choice.{if_then_else_}
 use Rattle.base.specs.Sum.{sumOf}
 use Rattle.base.proofs.Choice.{if-true, if-false}
-use Rattle.cover.specs.Cover.{lighter, before, portion, coveredAfter, covered}
+use Rattle.cover.specs.Cover.{lowerWeighted, before, portion, coveredAfter, covered}
 use Rattle.cover.specs.Layers.{Each}
 use Rattle.cover.specs.Sorted.{insert, sort, Rising, ofWeight, pass}
 use Rattle.cover.specs.declared.protection.Protection.{Protection}
-use Rattle.cover.proofs.Levels.{lighter-in, lighter-out, lighter-next, equal-out, before-none, before-next}
+use Rattle.cover.proofs.Levels.{lower-weighted-in, lower-weighted-out, lower-weighted-next, equal-out, before-none, before-next}
 use Rattle.cover.proofs.Portions.{piece}
 
 -- ---- the sort puts the weights in rising order, keeps the order of each weight, and so every sum
@@ -102,10 +102,10 @@ unfolding sumOf sort
 sum-sort f [] = refl
 sum-sort f (p ∷ ps) = omega (arith, sum-insert f p (sort ps), sum-sort f ps)
 
-none-lighter : (w : ℕ) (ps : List Protection) → Each (λ p. w ≤ p .weight) ps → sumOf (lighter w) ps ≡ 0
+none-lower-weighted : (w : ℕ) (ps : List Protection) → Each (λ p. w ≤ p .weight) ps → sumOf (lowerWeighted w) ps ≡ 0
 unfolding sumOf
-none-lighter w [] a = refl
-none-lighter w (p ∷ ps) a = omega (arith, none-lighter w ps (a .1), lighter-out w p (a .0))
+none-lower-weighted w [] a = refl
+none-lower-weighted w (p ∷ ps) a = omega (arith, none-lower-weighted w ps (a .1), lower-weighted-out w p (a .0))
 
 from-zero : (ps : List Protection) → Each (λ p. 0 ≤ p .weight) ps
 from-zero [] = tt
@@ -168,17 +168,17 @@ module _ (E : ℕ) (all : List Protection) where
 
   -- ---- over a rising list, cover is one pass: u is covered so far
   rising-pass : (u low : ℕ) (earlier ps : List Protection) → Each (λ p. low ≤ p .weight) ps → Rising ps →
-      ((w : ℕ) → low ≤ w → before w all earlier ≡ u + sumOf (lighter w) ps) → coveredAfter E all earlier ps ≡ pass (E - u) ps
+      ((w : ℕ) → low ≤ w → before w all earlier ≡ u + sumOf (lowerWeighted w) ps) → coveredAfter E all earlier ps ≡ pass (E - u) ps
   unfolding coveredAfter portion pass Rising sumOf
   rising-pass u low earlier [] a r h = refl
   rising-pass u low earlier (p ∷ ps) a r h =
       let e : before (p .weight) all earlier ≡ u =
-      omega (arith, h (p .weight) (a .0), lighter-out (p .weight) p (omega arith), none-lighter (p .weight) ps (r .0)) in
+      omega (arith, h (p .weight) (a .0), lower-weighted-out (p .weight) p (omega arith), none-lower-weighted (p .weight) ps (r .0)) in
       let left : E - (u + p .value) ≡ E - u - p .value = omega arith in
       ap₂ {C = List Protection} _∷_
       (ap {B = Protection} (λ (x : ℕ). record { value = min (p .value) (E - x); weight = p .weight }) e)
       (rising-pass (u + p .value) (p .weight) (earlier ++ p ∷ []) ps (r .0) (r .1)
-      (λ w k. omega (arith, h w (omega (arith, a .0)), before-next w all earlier p, lighter-next w p, lighter-in (suc w) p (omega arith))) ∙
+      (λ w k. omega (arith, h w (omega (arith, a .0)), before-next w all earlier p, lower-weighted-next w p, lower-weighted-in (suc w) p (omega arith))) ∙
       ap (λ x. pass x ps) left)
 
 -- THE CHECK: the pieces as covered, sorted, are those of a pass over the pieces sorted
@@ -186,5 +186,5 @@ pub in-rising-order : (E : ℕ) (ps : List Protection) → sort (covered E ps) �
 unfolding covered
 in-rising-order E ps =
     sort-covered E ps [] ps ∙
-    rising-pass E ps 0 0 [] (sort ps) (from-zero (sort ps)) (rising-sort ps) (λ w k. omega (arith, before-none w ps, sum-sort (lighter w) ps)) ∙
+    rising-pass E ps 0 0 [] (sort ps) (from-zero (sort ps)) (rising-sort ps) (λ w k. omega (arith, before-none w ps, sum-sort (lowerWeighted w) ps)) ∙
     ap (λ x. pass x (sort ps)) (sub-zero E)

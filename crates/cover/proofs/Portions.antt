@@ -8,7 +8,7 @@ use native.Mathlib.Omega.{arith}
 use lib.ListN.{length, take, getD}
 use lib.Seq.{append-snoc}
 use Rattle.base.specs.Sum.{sumOf}
-use Rattle.cover.specs.Cover.{lighter, equal, before, portion, coveredAfter, covered, rest}
+use Rattle.cover.specs.Cover.{lowerWeighted, equal, before, portion, coveredAfter, covered, uncovered}
 use Rattle.cover.specs.Layers.{Each}
 use Rattle.cover.specs.declared.protection.Protection.{Protection}
 use Rattle.cover.proofs.Levels.{equal-in, equal-out, level-next, level-zero, level-top, top, before-none, before-next}
@@ -37,7 +37,7 @@ module _ (E : ℕ) (all earlier : List Protection) (p : Protection) where
       go (no n) = omega (arith, equal-out w (piece E all earlier p) n, equal-out w p n)
 
 module _ (E : ℕ) (all : List Protection) where
-  -- those of weight w cover what the lighter and the earlier ones leave, up to their values
+  -- those of weight w cover what the lower-weighted and the earlier ones leave, up to their values
   fill-level : (w : ℕ) (earlier ps : List Protection) →
       sumOf (equal w) (coveredAfter E all earlier ps) + (E - (before w all earlier + sumOf (equal w) ps)) ≡ E - before w all earlier
   unfolding sumOf coveredAfter
@@ -71,15 +71,15 @@ module _ (E : ℕ) (all : List Protection) where
 
 module _ (E : ℕ) (ps : List Protection) where
   -- up to each weight: covered, and not covered, make up E
-  pub filled : (w : ℕ) → sumOf (lighter w) (covered E ps) + (E - sumOf (lighter w) ps) ≡ E
+  pub filled : (w : ℕ) → sumOf (lowerWeighted w) (covered E ps) + (E - sumOf (lowerWeighted w) ps) ≡ E
   unfolding covered
   filled zero = omega (arith, level-zero ps, level-zero (coveredAfter E ps [] ps))
   filled (suc w) =
       omega (arith, filled w, level-next w ps, level-next w (coveredAfter E ps [] ps), fill-level E ps w [] ps, before-none w ps)
 
   -- the portions and the rest make up the exposure
-  pub conserved : sumOf (λ p. p .value) (covered E ps) + rest E ps ≡ E
-  unfolding rest covered
+  pub conserved : sumOf (λ p. p .value) (covered E ps) + uncovered E ps ≡ E
+  unfolding uncovered covered
   conserved =
       omega (
         arith,

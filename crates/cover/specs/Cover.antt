@@ -9,8 +9,8 @@ use Rattle.cover.specs.declared.protection.Protection.{Protection}
 use Rattle.cover.specs.declared.protection.Cover.{Cover}
 
 -- the value of a guarantee that weighs less than w, and else 0; of one that weighs w, and else 0
-unfoldable pub lighter : ℕ → Protection → ℕ
-lighter w p = if ltb (p .weight) w then p .value else 0
+unfoldable pub lowerWeighted : ℕ → Protection → ℕ
+lowerWeighted w p = if ltb (p .weight) w then p .value else 0
 
 unfoldable pub equal : ℕ → Protection → ℕ
 equal w p = if eqb (p .weight) w then p .value else 0
@@ -18,7 +18,7 @@ equal w p = if eqb (p .weight) w then p .value else 0
 -- "in rising order of provider weight, equal weights in order of adding": what covers before a guarantee of weight w is all that
 -- weighs less, wherever it stands, and what weighs the same and was added earlier
 unfoldable pub before : ℕ → List Protection → List Protection → ℕ
-before w all earlier = sumOf (lighter w) all + sumOf (equal w) earlier
+before w all earlier = sumOf (lowerWeighted w) all + sumOf (equal w) earlier
 
 -- "each up to its value": its portion of what those before it leave of E
 unfoldable pub portion : ℕ → List Protection → List Protection → Protection → ℕ
@@ -37,13 +37,13 @@ abbrev pub portions : ℕ → List Protection → List ℕ
 portions E ps = map (λ p. p .value) (covered E ps)
 
 -- the uncovered rest (`conserved`: the portions and the rest make up E)
-unfoldable pub rest : ℕ → List Protection → ℕ
-rest E ps = E - sumOf (λ p. p .value) ps
+unfoldable pub uncovered : ℕ → List Protection → ℕ
+uncovered E ps = E - sumOf (λ p. p .value) ps
 
 -- "the sum of portion × weight"; "The rest bears the counterparty's weight" W
 unfoldable pub weightedSum : ℕ → ℕ → List Protection → ℕ
-weightedSum W E ps = sumOf (λ p. p .value * p .weight) (covered E ps) + rest E ps * W
+weightedSum W E ps = sumOf (λ p. p .value * p .weight) (covered E ps) + uncovered E ps * W
 
 -- all of it, as the program gives it
 abbrev pub coverOf : ℕ → ℕ → List Protection → Cover
-coverOf W E ps = record { portions = inPlaces 16 0 (portions E ps); rest = rest E ps; «weighted_sum» = weightedSum W E ps }
+coverOf W E ps = record { portions = inPlaces 16 0 (portions E ps); uncovered = uncovered E ps; «weighted_sum» = weightedSum W E ps }

@@ -1,10 +1,10 @@
--- The weighted sum by layers: each percent of the counterparty's weight is borne by what lighter pieces leave uncovered.
+-- The weighted sum by layers: each percent of the counterparty's weight is borne by what lower-weighted pieces leave uncovered.
 use Prim.Native.Nat.{ℕ, zero, suc, _+_, _-_, _<_}
 use mathlib.Core.Path.{_≡_}
 use mathlib.Core.List.{List, [], _∷_}
 use mathlib.Core.Logic.{_⊎_}
 use Rattle.base.specs.Sum.{sumOf}
-use Rattle.cover.specs.Cover.{lighter}
+use Rattle.cover.specs.Cover.{lowerWeighted}
 use Rattle.cover.specs.declared.protection.Protection.{Protection}
 
 abbrev pub Each : {A : Type 0} → (A → Type 0) → List A → Type 0
@@ -12,11 +12,11 @@ Each P [] = Unit {0}
 Each P (x ∷ xs) = P x × Each P xs
 
 -- a guarantee that is worth 0, as one left out is, or that has a lower weight than the counterparty
-abbrev pub LeftOutOrLighter : ℕ → Protection → Type 0
-LeftOutOrLighter W p = (p .value ≡ 0) ⊎ (p .weight < W)
+abbrev pub LeftOutOrLowerWeighted : ℕ → Protection → Type 0
+LeftOutOrLowerWeighted W p = (p .value ≡ 0) ⊎ (p .weight < W)
 
-abbrev pub EachLighter : ℕ → List Protection → Type 0
-EachLighter W ps = Each (LeftOutOrLighter W) ps
+abbrev pub EachLowerWeighted : ℕ → List Protection → Type 0
+EachLowerWeighted W ps = Each (LeftOutOrLowerWeighted W) ps
 
 -- f 0 + f 1 + .. + f (n - 1)
 unfoldable pub sumBelow : ℕ → (ℕ → ℕ) → ℕ
@@ -25,4 +25,4 @@ sumBelow (suc n) f = sumBelow n f + f n
 
 -- for each percent l below W, what the pieces of weight l or less leave of E
 abbrev pub layers : ℕ → ℕ → List Protection → ℕ
-layers W E ps = sumBelow W (λ l. E - sumOf (lighter (suc l)) ps)
+layers W E ps = sumBelow W (λ l. E - sumOf (lowerWeighted (suc l)) ps)

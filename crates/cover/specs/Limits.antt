@@ -3,5 +3,5 @@ use mathlib.Core.Bool.{Bool, _&&_}
 use lib.Dec.{leb}
 use Rattle.cover.specs.declared.protection.Protection.{Protection}
 
-unfoldable pub small : Protection → Bool
-small p = leb (p .value) 1000000000000 && leb (p .weight) 1000
+unfoldable pub withinLimits : Protection → Bool
+withinLimits p = leb (p .value) 1000000000000 && leb (p .weight) 1000

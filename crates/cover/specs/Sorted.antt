@@ -16,7 +16,7 @@ unfoldable pub sort : List Protection → List Protection
 sort [] = []
 sort (p ∷ ps) = insert p (sort ps)
 
--- what such an order is: no piece is lighter than one before it (`rising-sort`) ..
+-- what such an order is: no piece is lower-weighted than one before it (`rising-sort`) ..
 unfoldable pub Rising : List Protection → Type 0
 Rising [] = Unit {0}
 Rising (p ∷ ps) = Each (λ q. p .weight ≤ q .weight) ps × Rising ps

@@ -5,7 +5,7 @@ ghost use Prim.Native.Nat.{_-_, _≤_, min};
 ghost use lib.ListN.{take};
 ghost use Rattle.base.specs.All.{allPass};
 ghost use Rattle.cover.specs.Cover.{coverOf};
-ghost use Rattle.cover.specs.Limits.{small};
+ghost use Rattle.cover.specs.Limits.{withinLimits};
 use crate::precedence::covers_before;
 use crate::protection::Cover;
 use crate::protection::Protection;
@@ -26,11 +26,11 @@ pub fn cover(protections: [Protection; 16], count: usize, exposure: u64, weight:
     requires { ⌜ count ≤ 16 ⌝ }
     requires { ⌜ exposure ≤ 1000000000000 ⌝ }
     requires { ⌜ weight ≤ 1000 ⌝ }
-    requires { ⌜ allPass (take count protections) small ≡ true ⌝ }
+    requires { ⌜ allPass (take count protections) withinLimits ≡ true ⌝ }
     ensures { λ r. ⌜ r ≡ coverOf weight exposure (take count protections) ⌝ }
 {
     let mut portions: [u64; 16] = [0; 16];
-    let mut rest = exposure;
+    let mut uncovered = exposure;
     let mut weighted_sum: u64 = 0;
     let mut i: usize = 0;
     while i < count {
@@ -39,15 +39,15 @@ pub fn cover(protections: [Protection; 16], count: usize, exposure: u64, weight:
         let value = piece.value;
         let covered = portion(value, exposure, covers_before(protections, count, i, own));
         portions[i] = covered;
-        // Never too much: a portion is cut to what lighter and earlier ones leave.
-        rest -= covered;
+        // Never too much: a portion is cut to what lower-weighted and earlier ones leave.
+        uncovered -= covered;
         weighted_sum += covered * own;
         i += 1;
     }
-    weighted_sum += rest * weight;
+    weighted_sum += uncovered * weight;
     Cover {
         portions,
-        rest,
+        uncovered,
         weighted_sum,
     }
 }

@@ -20,7 +20,7 @@ pub struct Cover {
     // Portions in order of adding, 0 in places past the last.
     pub portions: [u64; 16],
     // The uncovered rest.
-    pub rest: u64,
+    pub uncovered: u64,
     // Portions times weights, and the rest times the counterparty's weight, in hundredths.
     pub weighted_sum: u64,
 }

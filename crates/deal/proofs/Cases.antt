@@ -55,7 +55,7 @@ pledge amount step residual original listed = record {
   original = original;
   lawful = 1;
   unrelated = 1;
-  unreflected = 1;
+  «not_in_rating» = 1;
   listed = listed;
 }
 
@@ -68,7 +68,7 @@ given amount class residual original direct = record {
   original = original;
   lawful = 1;
   direct = direct;
-  unreflected = 1;
+  «not_in_rating» = 1;
 }
 
 abbrev added : List ℕ

@@ -50,7 +50,7 @@ pub record PlainCollateral (c : Collateral) : Type 0 where
   pub terms : c .residual ≤ c .original
   pub lawful : c .lawful ≤ 1
   pub unrelated : c .unrelated ≤ 1
-  pub unreflected : c .unreflected ≤ 1
+  pub «not_in_rating» : c .«not_in_rating» ≤ 1
   pub listed : c .listed ≤ 1
 
 pub record PlainGuarantee (g : Guarantee) : Type 0 where
@@ -63,7 +63,7 @@ pub record PlainGuarantee (g : Guarantee) : Type 0 where
   pub terms : g .residual ≤ g .original
   pub lawful : g .lawful ≤ 1
   pub direct : g .direct ≤ 1
-  pub unreflected : g .unreflected ≤ 1
+  pub «not_in_rating» : g .«not_in_rating» ≤ 1
 
 -- a test that was not met, its condition negated
 held : (a : Bool) → not a ≡ false → a ≡ true
@@ -114,7 +114,7 @@ plain-collateral c e =
     let ranges = both (daysAllowed (c .residual) && daysAllowed (c .original)) _ (held _ (n .1 .1 .1 .1 .0)) in
     let days = both (daysAllowed (c .residual)) _ (ranges .0) in
     let eighth = held _ (n .1 .1 .1 .1 .1 .1 .0) in
-    let four = both (conditionAllowed (c .lawful) && conditionAllowed (c .unrelated) && conditionAllowed (c .unreflected)) _ eighth in
+    let four = both (conditionAllowed (c .lawful) && conditionAllowed (c .unrelated) && conditionAllowed (c .«not_in_rating»)) _ eighth in
     let three = both (conditionAllowed (c .lawful) && conditionAllowed (c .unrelated)) _ (four .0) in
     let two = both (conditionAllowed (c .lawful)) _ (three .0) in
     record {
@@ -127,7 +127,7 @@ plain-collateral c e =
       terms = ltb-false _ _ (n .1 .1 .1 .1 .1 .0);
       lawful = leb-true _ 1 (two .0);
       unrelated = leb-true _ 1 (two .1);
-      unreflected = leb-true _ 1 (three .1);
+      «not_in_rating» = leb-true _ 1 (three .1);
       listed = leb-true _ 1 (four .1);
     }
 
@@ -148,7 +148,7 @@ plain-guarantee g e =
       terms = ltb-false _ _ (n .1 .1 .1 .1 .1 .0);
       lawful = leb-true _ 1 (two .0);
       direct = leb-true _ 1 (two .1);
-      unreflected = leb-true _ 1 (three .1);
+      «not_in_rating» = leb-true _ 1 (three .1);
     }
 
 -- of a list that is allowed: its count, and each counted item

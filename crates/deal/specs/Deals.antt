@@ -26,7 +26,7 @@ zeroCollateral = record {
   original = 0;
   lawful = 0;
   unrelated = 0;
-  unreflected = 0;
+  «not_in_rating» = 0;
   listed = 0;
 }
 
@@ -39,7 +39,7 @@ zeroGuarantee = record {
   original = 0;
   lawful = 0;
   direct = 0;
-  unreflected = 0;
+  «not_in_rating» = 0;
 }
 
 -- the deal that these parts make

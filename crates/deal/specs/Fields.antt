@@ -52,7 +52,7 @@ collateralIn fields =
       original = field 6;
       lawful = field 7;
       unrelated = field 8;
-      unreflected = field 9;
+      «not_in_rating» = field 9;
       listed = field 10;
     }
 
@@ -67,7 +67,7 @@ collateralFields c =
     ∷ c .original
     ∷ c .lawful
     ∷ c .unrelated
-    ∷ c .unreflected
+    ∷ c .«not_in_rating»
     ∷ c .listed
     ∷ []
 
@@ -84,7 +84,7 @@ guaranteeIn fields =
       original = field 5;
       lawful = field 6;
       direct = field 7;
-      unreflected = field 8;
+      «not_in_rating» = field 8;
     }
 
 unfoldable pub guaranteeFields : Guarantee → List ℕ
@@ -97,5 +97,5 @@ guaranteeFields g =
     ∷ g .original
     ∷ g .lawful
     ∷ g .direct
-    ∷ g .unreflected
+    ∷ g .«not_in_rating»
     ∷ []

@@ -26,7 +26,7 @@ collateralTests c =
     ∷ 4 when not (currencyAllowed (c .currency))
     ∷ 5 when not (daysAllowed (c .residual) && daysAllowed (c .original) && lifeAllowed (c .asset))
     ∷ 7 when ltb (c .original) (c .residual)
-    ∷ 8 when not (conditionAllowed (c .lawful) && conditionAllowed (c .unrelated) && conditionAllowed (c .unreflected) && conditionAllowed (c .listed))
+    ∷ 8 when not (conditionAllowed (c .lawful) && conditionAllowed (c .unrelated) && conditionAllowed (c .«not_in_rating») && conditionAllowed (c .listed))
     ∷ []
 
 -- and of a guarantee
@@ -38,7 +38,7 @@ guaranteeTests g =
     ∷ 4 when not (currencyAllowed (g .currency))
     ∷ 5 when not (daysAllowed (g .residual) && daysAllowed (g .original))
     ∷ 7 when ltb (g .original) (g .residual)
-    ∷ 8 when not (conditionAllowed (g .lawful) && conditionAllowed (g .direct) && conditionAllowed (g .unreflected))
+    ∷ 8 when not (conditionAllowed (g .lawful) && conditionAllowed (g .direct) && conditionAllowed (g .«not_in_rating»))
     ∷ []
 
 -- the first that is met, or 0

@@ -24,7 +24,7 @@ pub struct Collateral {
     // listed senior bank paper.
     pub lawful: u64,
     pub unrelated: u64,
-    pub unreflected: u64,
+    pub not_in_rating: u64,
     pub listed: u64,
 }
 
@@ -52,7 +52,7 @@ impl Collateral {
         original: 0,
         lawful: 0,
         unrelated: 0,
-        unreflected: 0,
+        not_in_rating: 0,
         listed: 0,
     };
 
@@ -65,11 +65,11 @@ impl Collateral {
     }
 
     fn conditions_allowed(self) -> bool
-        ensures { λ r. ⌜ r ≡ (conditionAllowed (self .lawful) && conditionAllowed (self .unrelated) && conditionAllowed (self .unreflected) && conditionAllowed (self .listed)) ⌝ }
+        ensures { λ r. ⌜ r ≡ (conditionAllowed (self .lawful) && conditionAllowed (self .unrelated) && conditionAllowed (self .not_in_rating) && conditionAllowed (self .listed)) ⌝ }
     {
         condition_allowed(self.lawful)
             & condition_allowed(self.unrelated)
-            & condition_allowed(self.unreflected)
+            & condition_allowed(self.not_in_rating)
             & condition_allowed(self.listed)
     }
 

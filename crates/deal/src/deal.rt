@@ -19,7 +19,7 @@ pub struct Deal {
 }
 
 // What an operation answers, and the deal after it.
-pub struct Reply {
+pub struct DealReply {
     pub answer: Answer,
     pub deal: Deal,
 }
@@ -55,7 +55,7 @@ impl Deal {
         lent_goods: u64,
         lent_step: u64,
         lent_life: u64,
-    ) -> Reply
+    ) -> DealReply
         ensures { λ r. ⌜ (let t = termsOf amount class step currency kind interval residual «lent_goods» «lent_step» «lent_life» in (answerNumber (r .answer) ≡ termsRefusal t) × (r .deal ≡ openedDeal t)) ⌝ }
     {
         let terms = Terms {
@@ -74,10 +74,10 @@ impl Deal {
         let answer = terms.check();
         if !answer.is_accepted() {
             let deal = without_protection(Terms::ZERO);
-            return Reply { answer, deal };
+            return DealReply { answer, deal };
         }
         let deal = without_protection(terms);
-        Reply { answer, deal }
+        DealReply { answer, deal }
     }
 
     // Whether this is a record that adding takes: no count too high, no field that opening or adding would refuse.
@@ -99,11 +99,11 @@ impl Deal {
     }
 
     // One more item of collateral; the same deal beside a refusal.
-    pub fn add_collateral(mut self, item: Collateral) -> Reply
+    pub fn add_collateral(mut self, item: Collateral) -> DealReply
         ensures { λ r. ⌜ (answerNumber (r .answer) ≡ addCollateralRefusal self item) × (r .deal ≡ withCollateral self item) ⌝ }
     {
         if !self.allowed() {
-            return Reply {
+            return DealReply {
                 answer: Answer::RecordNotAccepted,
                 deal: self,
             };
@@ -113,15 +113,15 @@ impl Deal {
         let longer = added.list;
         self.collateral = longer;
         let answer = added.answer;
-        Reply { answer, deal: self }
+        DealReply { answer, deal: self }
     }
 
     // One more guarantee; the same deal beside a refusal.
-    pub fn add_guarantee(mut self, item: Guarantee) -> Reply
+    pub fn add_guarantee(mut self, item: Guarantee) -> DealReply
         ensures { λ r. ⌜ (answerNumber (r .answer) ≡ addGuaranteeRefusal self item) × (r .deal ≡ withGuarantee self item) ⌝ }
     {
         if !self.allowed() {
-            return Reply {
+            return DealReply {
                 answer: Answer::RecordNotAccepted,
                 deal: self,
             };
@@ -131,6 +131,6 @@ impl Deal {
         let longer = added.list;
         self.guarantees = longer;
         let answer = added.answer;
-        Reply { answer, deal: self }
+        DealReply { answer, deal: self }
     }
 }

@@ -54,7 +54,7 @@ pub fn collateral_in(fields: &[u64]) -> Collateral
         original: fields[6],
         lawful: fields[7],
         unrelated: fields[8],
-        unreflected: fields[9],
+        not_in_rating: fields[9],
         listed: fields[10],
     }
 }
@@ -74,6 +74,6 @@ pub fn guarantee_in(fields: &[u64]) -> Guarantee
         original: fields[5],
         lawful: fields[6],
         direct: fields[7],
-        unreflected: fields[8],
+        not_in_rating: fields[8],
     }
 }

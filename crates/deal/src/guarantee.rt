@@ -22,7 +22,7 @@ pub struct Guarantee {
     // Conditions, each 1 met or 0 not met: lawful; direct; not already reflected in the rating used.
     pub lawful: u64,
     pub direct: u64,
-    pub unreflected: u64,
+    pub not_in_rating: u64,
 }
 
 pub struct GuaranteeList {
@@ -45,7 +45,7 @@ impl Guarantee {
         original: 0,
         lawful: 0,
         direct: 0,
-        unreflected: 0,
+        not_in_rating: 0,
     };
 
     // Both terms of the guarantee.
@@ -56,11 +56,11 @@ impl Guarantee {
     }
 
     fn conditions_allowed(self) -> bool
-        ensures { λ r. ⌜ r ≡ (conditionAllowed (self .lawful) && conditionAllowed (self .direct) && conditionAllowed (self .unreflected)) ⌝ }
+        ensures { λ r. ⌜ r ≡ (conditionAllowed (self .lawful) && conditionAllowed (self .direct) && conditionAllowed (self .not_in_rating)) ⌝ }
     {
         condition_allowed(self.lawful)
             & condition_allowed(self.direct)
-            & condition_allowed(self.unreflected)
+            & condition_allowed(self.not_in_rating)
     }
 
     // The first refusal that its own fields meet.

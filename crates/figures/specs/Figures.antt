@@ -18,7 +18,7 @@ use Rattle.deal.specs.declared.collateral.Collateral.{Collateral}
 use Rattle.deal.specs.declared.guarantee.Guarantee.{Guarantee}
 use Rattle.deal.specs.declared.deal.Deal.{Deal}
 use Rattle.relief.specs.Outcomes.{outcomeValue, outcomeGround}
-use Rattle.relief.specs.Exposure.{raisedExposure}
+use Rattle.relief.specs.Exposure.{adjustedExposureOf}
 use Rattle.relief.specs.Report.{noCollateral, noGuarantee, reportOf}
 
 -- a figure: what the definitions give, and what the paper says of it; of scaling: H, n, and what the paper says of h
@@ -62,7 +62,7 @@ pledge amount goods currency residual original = record {
   original = original;
   lawful = 1;
   unrelated = 1;
-  unreflected = 1;
+  «not_in_rating» = 1;
   listed = 0;
 }
 
@@ -76,7 +76,7 @@ guarantee amount class step currency = record {
   original = 1800;
   lawful = 1;
   direct = 1;
-  unreflected = 1;
+  «not_in_rating» = 1;
 }
 
 -- what is reported of the only item of collateral of a loan of 2,000,000: its value, and its ground or 0
@@ -107,7 +107,7 @@ portion place = getD (reportOf covered .guarantees) place noGuarantee .portion
 
 -- a retail deal with nothing pledged
 abbrev retailAmount : ℕ → ℕ
-retailAmount amount = reportOf (dealWith (termsOf amount retail 0 home securedLending 1 1800 cash 0 0) [] []) .weighted
+retailAmount amount = reportOf (dealWith (termsOf amount retail 0 home securedLending 1 1800 cash 0 0) [] []) .rwa
 
 abbrev pub starred : List Figure
 starred =
@@ -136,14 +136,14 @@ starred =
     ∷ is (guaranteed 1 (guarantee 200000 1 1 abroad)) 184000
     -- "Repo lending type 8, amount 100, interval 6: raised to 125; same-currency cash 10, unmismatched, leaves E* 100 (not 115); cash 125
     -- leaves 0"
-    ∷ is (raisedExposure (tableFor repo) repo) 125
+    ∷ is (adjustedExposureOf (tableFor repo) repo) 125
     ∷ is (left 10) 100
     ∷ is (left 125) 0
     -- "E* 100; guarantee of 80 at weight 20 added before one of 60 at 0: portions 40 and 60, weighted amount 8"
     ∷ is (reportOf covered .exposure) 100
     ∷ is (portion 0) 40
     ∷ is (portion 1) 60
-    ∷ is (reportOf covered .weighted) 8
+    ∷ is (reportOf covered .rwa) 8
     -- "Retail, amount 1: weighted amount 1. Amount 0: 0"
     ∷ is (retailAmount 1) 1
     ∷ is (retailAmount 0) 0

@@ -47,7 +47,7 @@ const DEALS: [[u64; 10]; 39] = [
     [60, 3, 0, 978, 3, 1, 1_800, 1, 0, 0],
     // Four weights, added heaviest first, and a rest: rounded once.
     [1_003, 3, 0, 978, 3, 1, 1_800, 1, 0, 0],
-    // A guarantee lighter than those that use up the exposure, and one that covers nothing.
+    // A guarantee lower-weighted than those that use up the exposure, and one that covers nothing.
     [50, 3, 0, 978, 3, 1, 1_800, 1, 0, 0],
     // No term is too long for a deal as long: no mismatch, whatever the terms.
     [1_000, 3, 0, 978, 3, 1, 90, 1, 0, 0],
@@ -261,7 +261,7 @@ fn pledged(d: Deal, f: [u64; 12]) -> Deal {
         original: f[7],
         lawful: f[8],
         unrelated: f[9],
-        unreflected: f[10],
+        not_in_rating: f[10],
         listed: f[11],
     });
     r.deal
@@ -283,7 +283,7 @@ fn guaranteed(d: Deal, f: [u64; 10]) -> Deal {
         original: f[6],
         lawful: f[7],
         direct: f[8],
-        unreflected: f[9],
+        not_in_rating: f[9],
     });
     r.deal
 }

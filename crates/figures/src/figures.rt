@@ -2,14 +2,14 @@
 ghost use Prim.Native.Nat.{_≤_};
 use scaling::period::guarantee_period;
 use scaling::period::holding_period;
-use scaling::root::Root;
+use scaling::root::TimeFactor;
 use scaling::scaling::scaled_haircut;
 use tables::haircuts::haircut;
 use tables::haircuts::lent_haircut;
-use valuation::exposure::raised;
-use valuation::exposure::weighted;
-use valuation::haircuts::collateral_cut;
-use valuation::haircuts::currency_cut;
+use valuation::exposure::volatility_adjusted_exposure;
+use valuation::exposure::risk_weighted_amount;
+use valuation::haircuts::combined_haircut;
+use valuation::haircuts::scaled_currency_haircut;
 use valuation::protection::recognised;
 
 const HOME: u64 = 978;
@@ -59,8 +59,8 @@ fn pledged(
 ) -> u64
     requires { ⌜ (amount ≤ 1000000000000) × ((1 ≤ interval) × (interval ≤ 250)) ⌝ }
 {
-    let root = Root::of_period(holding_period(kind, interval));
-    let cut = collateral_cut(root, haircut(goods, step, life), currency, HOME);
+    let root = TimeFactor::of_period(holding_period(kind, interval));
+    let cut = combined_haircut(root, haircut(goods, step, life), currency, HOME);
     recognised(amount, cut, 1_800, 1_800)
 }
 
@@ -133,8 +133,8 @@ fn roundings() {
 fn guaranteed(amount: u64, interval: u64) -> u64
     requires { ⌜ (amount ≤ 1000000000000) × (interval ≤ 250) ⌝ }
 {
-    let root = Root::of_period(guarantee_period(interval));
-    let cut = currency_cut(root, ABROAD, HOME);
+    let root = TimeFactor::of_period(guarantee_period(interval));
+    let cut = scaled_currency_haircut(root, ABROAD, HOME);
     recognised(amount, cut, 1_800, 1_800)
 }
 
@@ -178,9 +178,9 @@ fn abroad() {
 fn lent(amount: u64, goods: u64, step: u64, life: u64) -> u64
     requires { ⌜ amount ≤ 1000000000000 ⌝ }
 {
-    let root = Root::of_period(holding_period(1, 6));
+    let root = TimeFactor::of_period(holding_period(1, 6));
     let cut = root.scale(lent_haircut(goods, step, life));
-    raised(amount, cut)
+    volatility_adjusted_exposure(amount, cut)
 }
 
 fn exposures() {
@@ -207,9 +207,9 @@ fn exposures() {
 }
 
 fn amounts() {
-    figure(b"portions 40 at 20 and 60 at 0", weighted(800));
-    figure(b"retail, amount 1", weighted(75));
-    figure(b"retail, amount 0", weighted(0));
-    figure(b"retail, amount 3", weighted(225));
-    figure(b"retail, amount 100", weighted(7_500));
+    figure(b"portions 40 at 20 and 60 at 0", risk_weighted_amount(800));
+    figure(b"retail, amount 1", risk_weighted_amount(75));
+    figure(b"retail, amount 0", risk_weighted_amount(0));
+    figure(b"retail, amount 3", risk_weighted_amount(225));
+    figure(b"retail, amount 100", risk_weighted_amount(7_500));
 }

@@ -77,6 +77,6 @@ pub fn report(r: Report, collateral_count: usize, guarantee_count: usize) {
     text(b" | rest");
     number(r.rest);
     text(b" | weighted");
-    number(r.weighted);
+    number(r.rwa);
     text(b"\n");
 }

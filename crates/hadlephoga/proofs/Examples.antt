@@ -62,8 +62,8 @@ sample = record {
   exposure = 1;
   collateral = record { outcome = Valued 2 } ∷ record { outcome = LeftOut NotLawful } ∷ [];
   guarantees = record { outcome = Valued 3; portion = 4 } ∷ record { outcome = LeftOut WeightNotBelow; portion = 5 } ∷ [];
-  rest = 6;
-  weighted = 7;
+  uncovered = 6;
+  rwa = 7;
 }
 
 report-in-place : reportNumbers sample ≡ 1 ∷ 2 ∷ 0 ∷ 0 ∷ 21 ∷ 3 ∷ 0 ∷ 4 ∷ 0 ∷ 29 ∷ 5 ∷ 6 ∷ 7 ∷ []

@@ -32,7 +32,7 @@ reportLength = 83
 
 unfoldable pub reportNumbers : Report → List ℕ
 reportNumbers r =
-    r .exposure ∷ (inOrder collateralNumbers (r .collateral) ++ inOrder guaranteeNumbers (r .guarantees) ++ r .rest ∷ r .weighted ∷ [])
+    r .exposure ∷ (inOrder collateralNumbers (r .collateral) ++ inOrder guaranteeNumbers (r .guarantees) ++ r .uncovered ∷ r .rwa ∷ [])
 
 -- Of lists of another length than a record's or a report's the paper says nothing. Here numbers that are no record get the reply of a
 -- record that is not accepted

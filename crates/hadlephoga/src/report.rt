@@ -80,6 +80,6 @@ pub fn put_report(list: &mut [u64], report: Report)
     let next = put_collateral(list, next, pledged);
     let guaranteed = report.guarantees;
     let next = put_guarantees(list, next, guaranteed);
-    let next = put_number(list, next, report.rest);
-    put_number(list, next, report.weighted);
+    let next = put_number(list, next, report.uncovered);
+    put_number(list, next, report.rwa);
 }

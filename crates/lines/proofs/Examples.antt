@@ -55,7 +55,7 @@ said =
       original = 1800;
       lawful = 1;
       unrelated = 1;
-      unreflected = 1;
+      «not_in_rating» = 1;
       listed = 0;
     })
     ∷ GuaranteeLine (record {
@@ -66,7 +66,7 @@ said =
       original = 1800;
       lawful = 1;
       direct = 1;
-      unreflected = 1;
+      «not_in_rating» = 1;
     })
     ∷ []
 
@@ -128,7 +128,7 @@ fields-in-place :
       original = 9123456789006;
       lawful = 9123456789007;
       unrelated = 9123456789008;
-      unreflected = 9123456789009;
+      «not_in_rating» = 9123456789009;
       listed = 9123456789010;
     })
     ∷ GuaranteeLine (record {
@@ -139,7 +139,7 @@ fields-in-place :
       original = 9123456789005;
       lawful = 9123456789006;
       direct = 9123456789007;
-      unreflected = 9123456789008;
+      «not_in_rating» = 9123456789008;
     })
     ∷ []
 unfolding lineOf dealLine collateralLine guaranteeLine termsIn collateralIn guaranteeIn ifRead fieldsOf withNumber andThen isEnd fieldOf numberOf numberRead numberAllowed digitsOf decimalFrom within if_then_else_

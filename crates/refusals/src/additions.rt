@@ -112,7 +112,7 @@ pub fn collateral_of(f: [u64; 11]) -> Collateral {
         original: f[6],
         lawful: f[7],
         unrelated: f[8],
-        unreflected: f[9],
+        not_in_rating: f[9],
         listed: f[10],
     }
 }
@@ -129,7 +129,7 @@ pub fn guarantee_of(f: [u64; 9]) -> Guarantee {
         original: f[5],
         lawful: f[6],
         direct: f[7],
-        unreflected: f[8],
+        not_in_rating: f[8],
     }
 }
 

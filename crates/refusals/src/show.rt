@@ -2,7 +2,7 @@
 use deal::answer::Answer;
 use deal::collateral::Collateral;
 use deal::collateral::CollateralList;
-use deal::deal::Reply;
+use deal::deal::DealReply;
 use deal::guarantee::Guarantee;
 use deal::guarantee::GuaranteeList;
 use deal::terms::Terms;
@@ -26,7 +26,7 @@ fn with_collateral(h: u64, c: Collateral) -> u64 {
     let b = mixed(mixed(a, asset.step), asset.life);
     let d = mixed(mixed(b, c.currency), c.residual);
     let e = mixed(mixed(d, c.original), c.lawful);
-    mixed(mixed(mixed(e, c.unrelated), c.unreflected), c.listed)
+    mixed(mixed(mixed(e, c.unrelated), c.not_in_rating), c.listed)
 }
 
 fn with_guarantee(h: u64, g: Guarantee) -> u64 {
@@ -34,7 +34,7 @@ fn with_guarantee(h: u64, g: Guarantee) -> u64 {
     let a = mixed(mixed(h, g.amount), provider.class);
     let b = mixed(mixed(a, provider.step), g.currency);
     let d = mixed(mixed(b, g.residual), g.original);
-    mixed(mixed(mixed(d, g.lawful), g.direct), g.unreflected)
+    mixed(mixed(mixed(d, g.lawful), g.direct), g.not_in_rating)
 }
 
 fn collateral(list: CollateralList) {
@@ -74,7 +74,7 @@ fn terms(t: Terms) {
     number(lent.life);
 }
 
-pub fn reply(r: Reply) {
+pub fn reply(r: DealReply) {
     let answer = r.answer;
     let deal = r.deal;
     text(b" :");

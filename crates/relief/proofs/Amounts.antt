@@ -8,10 +8,10 @@ use Rattle.base.specs.Sum.{sumOf}
 use Rattle.base.proofs.Sum.{sum-map}
 use Rattle.tables.specs.Table.{Table, TableLaws, Goods}
 use Rattle.scaling.proofs.Scaled.{scaled-mono}
-use Rattle.valuation.specs.Exposure.{weighted}
-use Rattle.valuation.proofs.Amounts.{raised-mono, weighted-mono}
-use Rattle.cover.specs.Cover.{lighter, weightedSum}
-use Rattle.cover.specs.Layers.{EachLighter}
+use Rattle.valuation.specs.Exposure.{riskWeightedAmount}
+use Rattle.valuation.proofs.Amounts.{adjusted-exposure-mono, risk-weighted-mono}
+use Rattle.cover.specs.Cover.{lowerWeighted, weightedSum}
+use Rattle.cover.specs.Layers.{EachLowerWeighted}
 use Rattle.cover.specs.declared.protection.Protection.{Protection}
 use Rattle.cover.proofs.Layers.{within-map}
 use Rattle.cover.proofs.Laws.{weighted-mono as sum-no-higher}
@@ -21,9 +21,9 @@ use Rattle.deal.specs.declared.collateral.Collateral.{Collateral}
 use Rattle.deal.specs.declared.guarantee.Guarantee.{Guarantee}
 use Rattle.relief.specs.Outcomes.{outcomeValue}
 use Rattle.relief.specs.Recognition.{collateralOutcome, protectionOf, counterpartyWeightOf}
-use Rattle.relief.specs.Exposure.{lentCut, raisedExposure, collateralTotal, exposureAfter, piecesOf, weightedAmount}
+use Rattle.relief.specs.Exposure.{scaledLentHaircut, adjustedExposureOf, collateralTotal, exposureAfter, piecesOf, riskWeightedAmountOf}
 use Rattle.relief.proofs.NoWorse.{SameOrBetter, NoWorseTerms, NoWorseCollateral, NoWorseGuarantee, NoLess, sum-no-less}
-use Rattle.relief.proofs.Recognition.{period-no-longer, counterparty-same, protection-lighter, collateral-no-less, protection-no-less}
+use Rattle.relief.proofs.Recognition.{period-no-longer, counterparty-same, protection-lower-weighted, collateral-no-less, protection-no-less}
 
 -- Of any table
 
@@ -34,33 +34,33 @@ module _ (table : Table) where
   exposure-bound v = omega arith
 
   -- more collateral, less exposure
-  pub exposure-mono : (v v′ : View) → v′ .terms .amount ≡ v .terms .amount → raisedExposure table (v′ .terms) ≤ raisedExposure table (v .terms) →
+  pub exposure-mono : (v v′ : View) → v′ .terms .amount ≡ v .terms .amount → adjustedExposureOf table (v′ .terms) ≤ adjustedExposureOf table (v .terms) →
       collateralTotal table (v .terms) (v .collateral) ≤ collateralTotal table (v′ .terms) (v′ .collateral) → exposureAfter table v′ ≤ exposureAfter table v
   unfolding exposureAfter
   exposure-mono v v′ e r s = omega arith
 
   -- what the guarantees are worth that weigh less than w
   abbrev pub protectionBelow : ℕ → View → ℕ
-  protectionBelow w v = sumOf (λ g. lighter w (protectionOf table (v .terms) g)) (v .guarantees)
+  protectionBelow w v = sumOf (λ g. lowerWeighted w (protectionOf table (v .terms) g)) (v .guarantees)
 
-  pub all-lighter : (v : View) → EachLighter (counterpartyWeightOf table (v .terms)) (piecesOf table v)
-  all-lighter v = within-map (counterpartyWeightOf table (v .terms)) (protectionOf table (v .terms)) (protection-lighter table (v .terms)) (v .guarantees)
+  pub all-lower-weighted : (v : View) → EachLowerWeighted (counterpartyWeightOf table (v .terms)) (piecesOf table v)
+  all-lower-weighted v = within-map (counterpartyWeightOf table (v .terms)) (protectionOf table (v .terms)) (protection-lower-weighted table (v .terms)) (v .guarantees)
 
-  weighted-lower : {W W′ E E′ : ℕ} (ps ps′ : List Protection) → W′ ≡ W → EachLighter W ps → EachLighter W′ ps′ → E′ ≤ E →
-      ((w : ℕ) → sumOf (lighter w) ps ≤ sumOf (lighter w) ps′) → weighted (weightedSum W′ E′ ps′) ≤ weighted (weightedSum W E ps)
+  weighted-lower : {W W′ E E′ : ℕ} (ps ps′ : List Protection) → W′ ≡ W → EachLowerWeighted W ps → EachLowerWeighted W′ ps′ → E′ ≤ E →
+      ((w : ℕ) → sumOf (lowerWeighted w) ps ≤ sumOf (lowerWeighted w) ps′) → riskWeightedAmount (weightedSum W′ E′ ps′) ≤ riskWeightedAmount (weightedSum W E ps)
   weighted-lower {W} {W′} {E} {E′} ps ps′ e h h′ less more =
-      weighted-mono (rw e (sum-no-higher W E′ E ps′ ps (rw e at h′) h less (λ l k. more (suc l))))
+      risk-weighted-mono (rw e (sum-no-higher W E′ E ps′ ps (rw e at h′) h less (λ l k. more (suc l))))
 
   -- the same counterparty, no more exposure, no less protection below any weight
   pub amount-mono : (v v′ : View) → counterpartyWeightOf table (v′ .terms) ≡ counterpartyWeightOf table (v .terms) →
-      exposureAfter table v′ ≤ exposureAfter table v → ((w : ℕ) → protectionBelow w v ≤ protectionBelow w v′) → weightedAmount table v′ ≤ weightedAmount table v
-  unfolding weightedAmount
+      exposureAfter table v′ ≤ exposureAfter table v → ((w : ℕ) → protectionBelow w v ≤ protectionBelow w v′) → riskWeightedAmountOf table v′ ≤ riskWeightedAmountOf table v
+  unfolding riskWeightedAmountOf
   amount-mono v v′ same less more =
-      weighted-lower (piecesOf table v) (piecesOf table v′) same (all-lighter v) (all-lighter v′) less
-      (λ w. omega (arith, more w, sum-map (lighter w) (protectionOf table (v .terms)) (v .guarantees), sum-map (lighter w) (protectionOf table (v′ .terms)) (v′ .guarantees)))
+      weighted-lower (piecesOf table v) (piecesOf table v′) same (all-lower-weighted v) (all-lower-weighted v′) less
+      (λ w. omega (arith, more w, sum-map (lowerWeighted w) (protectionOf table (v .terms)) (v .guarantees), sum-map (lowerWeighted w) (protectionOf table (v′ .terms)) (v′ .guarantees)))
 
   -- PROTECTION NEVER RAISES THE WEIGHTED AMOUNT
-  pub no-higher-than-without : (v : View) → weightedAmount table v ≤ weightedAmount table (unprotected (v .terms))
+  pub no-higher-than-without : (v : View) → riskWeightedAmountOf table v ≤ riskWeightedAmountOf table (unprotected (v .terms))
   unfolding collateralTotal sumOf
   no-higher-than-without v =
       let bare = unprotected (v .terms) in
@@ -74,10 +74,10 @@ module _ {table : Table} (laws : TableLaws table) {t t′ : Terms} (terms : NoWo
       rw (same, long) (⊎-elim (λ q. rw q (omega arith)) (λ b. laws .step-lent g s s′ l hg b) step)
 
   -- better goods lent, a shorter interval: the exposure is raised no more
-  pub raised-no-more : raisedExposure table t′ ≤ raisedExposure table t
-  unfolding raisedExposure lentCut
-  raised-no-more =
-      raised-mono (omega (arith, terms .fields .amount))
+  pub adjusted-exposure-no-more : adjustedExposureOf table t′ ≤ adjustedExposureOf table t
+  unfolding adjustedExposureOf scaledLentHaircut
+  adjusted-exposure-no-more =
+      adjusted-exposure-mono (omega (arith, terms .fields .amount))
       (scaled-mono (lent-no-more (terms .plain .lentGoods) (terms .fields .lentGoods) (terms .lentStep) (terms .fields .lentLife)) (period-no-longer (terms .fields .kind) (terms .fields .interval)))
 
   module _ {cs cs′ : List Collateral} (collateral : NoLess (NoWorseCollateral (t .currency)) cs cs′) where
@@ -89,10 +89,10 @@ module _ {table : Table} (laws : TableLaws table) {t t′ : Terms} (terms : NoWo
 
     -- WHERE NOTHING GOT WORSE, THE WEIGHTED AMOUNT IS NO HIGHER
     pub amount-no-higher : {gs gs′ : List Guarantee} → NoLess (NoWorseGuarantee (t .currency)) gs gs′ →
-        weightedAmount table (record { terms = t′; collateral = cs′; guarantees = gs′ }) ≤ weightedAmount table (record { terms = t; collateral = cs; guarantees = gs })
+        riskWeightedAmountOf table (record { terms = t′; collateral = cs′; guarantees = gs′ }) ≤ riskWeightedAmountOf table (record { terms = t; collateral = cs; guarantees = gs })
     amount-no-higher {gs} {gs′} guarantees =
         let v : View = record { terms = t; collateral = cs; guarantees = gs } in
         let v′ : View = record { terms = t′; collateral = cs′; guarantees = gs′ } in
-        amount-mono table v v′ (counterparty-same table terms) (exposure-mono table v v′ (terms .fields .amount) raised-no-more total-no-less) (λ w.
-        sum-no-less (NoWorseGuarantee (t .currency)) (λ g. lighter w (protectionOf table t g)) (λ g. lighter w (protectionOf table t′ g))
+        amount-mono table v v′ (counterparty-same table terms) (exposure-mono table v v′ (terms .fields .amount) adjusted-exposure-no-more total-no-less) (λ w.
+        sum-no-less (NoWorseGuarantee (t .currency)) (λ g. lowerWeighted w (protectionOf table t g)) (λ g. lowerWeighted w (protectionOf table t′ g))
         (λ g g′ b. protection-no-less laws terms b w) gs gs′ guarantees)

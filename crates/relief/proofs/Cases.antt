@@ -16,9 +16,9 @@ use Rattle.relief.proofs.Computed.{computed}
 abbrev loan : ℕ → Terms
 loan step = termsOf 10000 3 step 978 3 1 1800 1 0 0
 
--- goods, step, issue life; residual and original term; lawful, unrelated, unreflected
+-- goods, step, issue life; residual and original term; lawful, unrelated, not_in_rating
 abbrev pledge : ℕ → ℕ → ℕ → ℕ → ℕ → ℕ → ℕ → ℕ → Collateral
-pledge goods step life residual original lawful unrelated unreflected = record {
+pledge goods step life residual original lawful unrelated «not_in_rating» = record {
   amount = 9000;
   asset = record { goods = goods; step = step; life = life };
   currency = 978;
@@ -26,13 +26,13 @@ pledge goods step life residual original lawful unrelated unreflected = record {
   original = original;
   lawful = lawful;
   unrelated = unrelated;
-  unreflected = unreflected;
+  «not_in_rating» = «not_in_rating»;
   listed = 0;
 }
 
--- class of an unrated provider, currency; residual and original term; lawful, direct, unreflected
+-- class of an unrated provider, currency; residual and original term; lawful, direct, not_in_rating
 abbrev guarantee : ℕ → ℕ → ℕ → ℕ → ℕ → ℕ → ℕ → Guarantee
-guarantee class currency residual original lawful direct unreflected = record {
+guarantee class currency residual original lawful direct «not_in_rating» = record {
   amount = 9000;
   provider = record { class = class; step = 0 };
   currency = currency;
@@ -40,7 +40,7 @@ guarantee class currency residual original lawful direct unreflected = record {
   original = original;
   lawful = lawful;
   direct = direct;
-  unreflected = unreflected;
+  «not_in_rating» = «not_in_rating»;
 }
 
 -- what is reported of the items
@@ -108,7 +108,7 @@ ten = record {
   original = 1800;
   lawful = 1;
   unrelated = 1;
-  unreflected = 1;
+  «not_in_rating» = 1;
   listed = 0;
 }
 

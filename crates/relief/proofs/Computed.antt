@@ -7,14 +7,14 @@ use Rattle.base.specs.Range.{within}
 use Rattle.base.specs.Rounding.{roundUp}
 use Rattle.base.specs.Sum.{sumOf}
 use Rattle.tables.specs.Eligibility.{eligible, bankDebtEligible, equityOrGold}
-use Rattle.tables.specs.Haircuts.{rowOf, bandOf, columnOf as issuerColumn, debtHaircut, haircut, lentHaircut}
-use Rattle.tables.specs.Weights.{columnOf, tableWeight, counterpartyWeight, providerWeight}
+use Rattle.tables.specs.Haircuts.{rowOf, bandOf, issuerColumn, debtHaircut, haircut, lentHaircut}
+use Rattle.tables.specs.Weights.{stepColumn, tableWeight, counterpartyWeight, providerWeight}
 use Rattle.scaling.specs.Period.{minimumPeriod, holdingPeriod, guaranteePeriod}
 use Rattle.scaling.specs.Scaling.{scaled}
-use Rattle.valuation.specs.Haircuts.{currencyCut, collateralCut}
-use Rattle.valuation.specs.Protection.{keepShare, reduced, mismatched, adjusted, recognised}
-use Rattle.valuation.specs.Exposure.{raised, weighted}
-use Rattle.cover.specs.Cover.{lighter, equal, before, portion, coveredAfter, covered, rest, weightedSum}
+use Rattle.valuation.specs.Haircuts.{scaledCurrencyHaircut, combinedHaircut}
+use Rattle.valuation.specs.Protection.{keepShare, volatilityAdjustedValue, mismatched, maturityAdjusted, recognised}
+use Rattle.valuation.specs.Exposure.{volatilityAdjustedExposure, riskWeightedAmount}
+use Rattle.cover.specs.Cover.{lowerWeighted, equal, before, portion, coveredAfter, covered, uncovered, weightedSum}
 use Rattle.deal.specs.Parties.{partyStepAllowed}
 use Rattle.deal.specs.Assets.{assetStepAllowed, lifeAllowed}
 use Rattle.deal.specs.Terms.{termsTests, termsRefusal}
@@ -25,10 +25,10 @@ use Rattle.deal.specs.declared.deal.Deal.{Deal}
 use Rattle.relief.specs.declared.report.Report.{Report}
 use Rattle.relief.specs.Grounds.{groundNumber, groundWith}
 use Rattle.relief.specs.Outcomes.{outcomeValue, outcomeGround, outcomeFor}
-use Rattle.relief.specs.Recognition.{shortOriginal, shortResidual, cutOf, collateralValue, collateralGrounds, collateralGround, collateralOutcome, guaranteeValue, guaranteeGrounds, guaranteeGround, guaranteeOutcome}
-use Rattle.relief.specs.Exposure.{lentCut, raisedExposure, collateralTotal, exposureAfter, weightedAmount}
+use Rattle.relief.specs.Recognition.{shortOriginal, shortResidual, combinedHaircutOf, collateralValue, collateralGrounds, collateralGround, collateralOutcome, guaranteeValue, guaranteeGrounds, guaranteeGround, guaranteeOutcome}
+use Rattle.relief.specs.Exposure.{scaledLentHaircut, adjustedExposureOf, collateralTotal, exposureAfter, riskWeightedAmountOf}
 use Rattle.relief.specs.Report.{fullReport, reportUnder, reportOf}
 
 unfoldable pub computed : Deal → Report
-unfolding accepted recordAllowed tableFor collateralListAllowed guaranteeListAllowed termsRefusal termsTests collateralRefusal collateralTests guaranteeRefusal guaranteeTests firstOr within partyStepAllowed assetStepAllowed lifeAllowed if_then_else_ least between roundUp sumOf zipWith eligible bankDebtEligible equityOrGold rowOf bandOf issuerColumn debtHaircut haircut lentHaircut columnOf tableWeight counterpartyWeight providerWeight minimumPeriod holdingPeriod guaranteePeriod scaled currencyCut collateralCut keepShare reduced mismatched adjusted recognised raised weighted lighter equal before portion coveredAfter covered rest weightedSum groundNumber groundWith outcomeValue outcomeGround outcomeFor shortOriginal shortResidual cutOf collateralValue collateralGrounds collateralGround collateralOutcome guaranteeValue guaranteeGrounds guaranteeGround guaranteeOutcome lentCut raisedExposure collateralTotal exposureAfter weightedAmount fullReport reportUnder
+unfolding accepted recordAllowed tableFor collateralListAllowed guaranteeListAllowed termsRefusal termsTests collateralRefusal collateralTests guaranteeRefusal guaranteeTests firstOr within partyStepAllowed assetStepAllowed lifeAllowed if_then_else_ least between roundUp sumOf zipWith eligible bankDebtEligible equityOrGold rowOf bandOf issuerColumn debtHaircut haircut lentHaircut stepColumn tableWeight counterpartyWeight providerWeight minimumPeriod holdingPeriod guaranteePeriod scaled scaledCurrencyHaircut combinedHaircut keepShare volatilityAdjustedValue mismatched maturityAdjusted recognised volatilityAdjustedExposure riskWeightedAmount lowerWeighted equal before portion coveredAfter covered uncovered weightedSum groundNumber groundWith outcomeValue outcomeGround outcomeFor shortOriginal shortResidual combinedHaircutOf collateralValue collateralGrounds collateralGround collateralOutcome guaranteeValue guaranteeGrounds guaranteeGround guaranteeOutcome scaledLentHaircut adjustedExposureOf collateralTotal exposureAfter riskWeightedAmountOf fullReport reportUnder
 computed d = reportOf d

@@ -27,7 +27,7 @@ module _ (table : Table) (t : Terms) where
   TwentyFour c =
       (eqb (c .lawful) 0 ≡ false)
       × ((eqb (c .unrelated) 0 ≡ false)
-      × ((eqb (c .unreflected) 0 ≡ false)
+      × ((eqb (c .«not_in_rating») 0 ≡ false)
       × (not (table .eligible (c .asset .goods) (c .asset .step) (c .listed)) ≡ true)))
 
   pub collateral-24 : (c : Collateral) →

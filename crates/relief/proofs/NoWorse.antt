@@ -47,7 +47,7 @@ pub record NoLowerCollateral (c c′ : Collateral) : Type 0 where
   pub original : c .original ≤ c′ .original
   pub lawful : c .lawful ≤ c′ .lawful
   pub unrelated : c .unrelated ≤ c′ .unrelated
-  pub unreflected : c .unreflected ≤ c′ .unreflected
+  pub «not_in_rating» : c .«not_in_rating» ≤ c′ .«not_in_rating»
   pub listed : c .listed ≤ c′ .listed
 
 -- under a deal in this currency
@@ -67,7 +67,7 @@ pub record NoLowerGuarantee (g g′ : Guarantee) : Type 0 where
   pub original : g .original ≤ g′ .original
   pub lawful : g .lawful ≤ g′ .lawful
   pub direct : g .direct ≤ g′ .direct
-  pub unreflected : g .unreflected ≤ g′ .unreflected
+  pub «not_in_rating» : g .«not_in_rating» ≤ g′ .«not_in_rating»
 
 pub record NoWorseGuarantee (dealCurrency : ℕ) (g g′ : Guarantee) : Type 0 where
   pub before : PlainGuarantee g

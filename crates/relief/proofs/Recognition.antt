@@ -1,4 +1,4 @@
--- What is no worse is worth no less, for every table with the laws; and what is recognised is lighter than the counterparty, for every
+-- What is no worse is worth no less, for every table with the laws; and what is recognised is lower-weighted than the counterparty, for every
 -- table. Assumes nothing.
 use Prim.Native.Nat.{ℕ, _≤_}
 use mathlib.Core.Path.{_≡_, refl, ap₂}
@@ -14,19 +14,19 @@ use Rattle.base.proofs.Tests.{not-false, told-not-true}
 use Rattle.tables.specs.Table.{Table, TableLaws, Goods, Provider}
 use Rattle.scaling.specs.Period.{holdingPeriod}
 use Rattle.scaling.proofs.Periods.{period-mono, guarantee-mono}
-use Rattle.valuation.specs.Haircuts.{collateralCut, currencyCut}
+use Rattle.valuation.specs.Haircuts.{combinedHaircut, scaledCurrencyHaircut}
 use Rattle.valuation.specs.Protection.{recognised}
-use Rattle.valuation.proofs.Cuts.{currency-mono, currency-same, collateral-mono, collateral-same}
+use Rattle.valuation.proofs.CombinedHaircut.{currency-mono, currency-same, collateral-mono, collateral-same}
 use Rattle.valuation.proofs.Values.{recognised-mono}
-use Rattle.cover.specs.Cover.{lighter}
-use Rattle.cover.specs.Layers.{LeftOutOrLighter}
-use Rattle.cover.proofs.Levels.{lighter-mono}
+use Rattle.cover.specs.Cover.{lowerWeighted}
+use Rattle.cover.specs.Layers.{LeftOutOrLowerWeighted}
+use Rattle.cover.proofs.Levels.{lower-weighted-mono}
 use Rattle.deal.specs.declared.terms.Terms.{Terms}
 use Rattle.deal.specs.declared.collateral.Collateral.{Collateral}
 use Rattle.deal.specs.declared.guarantee.Guarantee.{Guarantee}
 use Rattle.relief.specs.Grounds.{groundNumber, groundWith}
 use Rattle.relief.specs.Outcomes.{outcomeValue, outcomeGround, outcomeFor}
-use Rattle.relief.specs.Recognition.{cutOf, collateralValue, collateralGrounds, collateralGround, collateralOutcome, counterpartyWeightOf, providerWeightOf, guaranteeValue, guaranteeGrounds, guaranteeGround, guaranteeOutcome, protectionOf}
+use Rattle.relief.specs.Recognition.{combinedHaircutOf, collateralValue, collateralGrounds, collateralGround, collateralOutcome, counterpartyWeightOf, providerWeightOf, guaranteeValue, guaranteeGrounds, guaranteeGround, guaranteeOutcome, protectionOf}
 use Rattle.relief.proofs.Outcomes.{LeaveOut, ground-given, value-or-none, value-mono}
 use Rattle.relief.proofs.NoWorse.{SameOrBetter, SameOrDeals, NoWorseTerms, NoWorseCollateral, NoWorseGuarantee}
 use Rattle.relief.proofs.Unmet.{_also_, condition-stays, original-stays, residual-stays, rated-stays, weight-stays}
@@ -58,9 +58,9 @@ module _ (table : Table) (t : Terms) where
   guarantee-number g = ground-given (guaranteeValue t g) (guaranteeGrounds table t g) (guarantee-leaves _ g)
 
   -- 29: a guarantee covers nothing, or weighs less than the counterparty
-  pub protection-lighter : (g : Guarantee) → LeftOutOrLighter (counterpartyWeightOf table t) (protectionOf table t g)
+  pub protection-lower-weighted : (g : Guarantee) → LeftOutOrLowerWeighted (counterpartyWeightOf table t) (protectionOf table t g)
   unfolding guaranteeOutcome guaranteeGround guaranteeGrounds
-  protection-lighter g =
+  protection-lower-weighted g =
       ⊎-elim (λ z. inl z) (λ n. inr (leb-false _ _ (n .1 .1 .1 .1 .1 .1 .0)))
       (value-or-none (guaranteeValue t g) (guaranteeGrounds table t g) (guarantee-leaves _ g))
 
@@ -69,15 +69,15 @@ pub counterparty-same : (table : Table) {t t′ : Terms} → NoWorseTerms t t′
 counterparty-same table n = ap₂ (table .counterpartyWeight) (n .fields .class) (n .fields .step)
 
 -- the same currency or the deal's, a shorter period: no larger a currency haircut; with a smaller haircut, no larger a sum
-currency-no-more : {a a′ b b′ n n′ : ℕ} → b′ ≡ b → SameOrDeals b a a′ → n′ ≤ n → currencyCut a′ b′ n′ ≤ currencyCut a b n
+currency-no-more : {a a′ b b′ n n′ : ℕ} → b′ ≡ b → SameOrDeals b a a′ → n′ ≤ n → scaledCurrencyHaircut a′ b′ n′ ≤ scaledCurrencyHaircut a b n
 currency-no-more {a} {a′} {b} {b′} {n} {n′} e m h =
     rw e (⊎-elim (λ s. rw s (currency-mono a b h)) (λ s. rw s (omega (arith, currency-same b n′))) m)
 
-haircuts-no-more : {H H′ a a′ b b′ n n′ : ℕ} → b′ ≡ b → SameOrDeals b a a′ → H′ ≤ H → n′ ≤ n → collateralCut H′ a′ b′ n′ ≤ collateralCut H a b n
+haircuts-no-more : {H H′ a a′ b b′ n n′ : ℕ} → b′ ≡ b → SameOrDeals b a a′ → H′ ≤ H → n′ ≤ n → combinedHaircut H′ a′ b′ n′ ≤ combinedHaircut H a b n
 haircuts-no-more {H} {H′} {a} {a′} {b} {b′} {n} {n′} e m k h =
     rw e (⊎-elim (λ s. rw s (collateral-mono a b k h)) (λ s. rw s (le-trans (collateral-mono b b k h) (collateral-same H a b n))) m)
 
-recognised-no-less : {x x′ cut cut′ r r′ term term′ : ℕ} → term′ ≡ term → x ≤ x′ → cut′ ≤ cut → r ≤ r′ → recognised x cut r term ≤ recognised x′ cut′ r′ term′
+recognised-no-less : {x x′ haircut haircut′ r r′ term term′ : ℕ} → term′ ≡ term → x ≤ x′ → haircut′ ≤ haircut → r ≤ r′ → recognised x haircut r term ≤ recognised x′ haircut′ r′ term′
 recognised-no-less {term = term} e ha hc hr = rw e (recognised-mono term ha hc hr)
 
 pub period-no-longer : {kind kind′ i i′ : ℕ} → kind′ ≡ kind → i′ ≤ i → holdingPeriod kind′ i′ ≤ holdingPeriod kind i
@@ -124,14 +124,14 @@ module _ {table : Table} (laws : TableLaws table) where
       collateral-stays n =
           condition-stays (item .fields .lawful) (n .0)
           also condition-stays (item .fields .unrelated) (n .1 .0)
-          also condition-stays (item .fields .unreflected) (n .1 .1 .0)
+          also condition-stays (item .fields .«not_in_rating») (n .1 .1 .0)
           also not-false _ (stays-eligible (item .before .goods) (item .before .step) (item .after .listed) (item .fields .goods) (item .step) (item .fields .listed) (was-eligible n))
           also original-stays t t′ (terms .fields .residual) (item .fields .residual) (item .fields .original) (n .1 .1 .1 .1 .0)
           also residual-stays t t′ (terms .fields .residual) (item .fields .residual) (n .1 .1 .1 .1 .1 .0)
           also tt
 
       value-no-less : NoneMet (collateralGrounds table t c) → collateralValue table t c ≤ collateralValue table t′ c′
-      unfolding collateralValue cutOf
+      unfolding collateralValue combinedHaircutOf
       value-no-less n =
           let haircut = haircut-no-more (item .before .goods) (item .before .listed) (item .fields .goods) (item .step) (item .fields .life) (was-eligible n) in
           let haircuts = haircuts-no-more (terms .fields .currency) (item .currency) haircut (period-no-longer (terms .fields .kind) (terms .fields .interval)) in
@@ -153,7 +153,7 @@ module _ {table : Table} (laws : TableLaws table) where
       guarantee-stays n =
           condition-stays (item .fields .lawful) (n .0)
           also condition-stays (item .fields .direct) (n .1 .0)
-          also condition-stays (item .fields .unreflected) (n .1 .1 .0)
+          also condition-stays (item .fields .«not_in_rating») (n .1 .1 .0)
           also rated-stays g g′ (item .fields .class) (item .step) (n .1 .1 .1 .0)
           also original-stays t t′ (terms .fields .residual) (item .fields .residual) (item .fields .original) (n .1 .1 .1 .1 .0)
           also residual-stays t t′ (terms .fields .residual) (item .fields .residual) (n .1 .1 .1 .1 .1 .0)
@@ -173,5 +173,5 @@ module _ {table : Table} (laws : TableLaws table) where
           (guarantee-leaves table t _ g) (λ n. (guarantee-stays n, guaranteed-no-less))
 
       -- A GUARANTEE NO WORSE COVERS NO LESS BELOW ANY WEIGHT
-      pub protection-no-less : (w : ℕ) → lighter w (protectionOf table t g) ≤ lighter w (protectionOf table t′ g′)
-      protection-no-less w = lighter-mono w (protectionOf table t g) (protectionOf table t′ g′) guarantee-no-less weighs-no-more
+      pub protection-no-less : (w : ℕ) → lowerWeighted w (protectionOf table t g) ≤ lowerWeighted w (protectionOf table t′ g′)
+      protection-no-less w = lower-weighted-mono w (protectionOf table t g) (protectionOf table t′ g′) guarantee-no-less weighs-no-more

@@ -16,7 +16,7 @@ use Rattle.base.proofs.Sum.{sum-map}
 use Rattle.base.proofs.Places.{length-zip}
 use Rattle.base.proofs.Placed.{sum-past, sum-places, sum-zip, zip-at, places-hold}
 use Rattle.tables.specs.Table.{Table}
-use Rattle.cover.specs.Cover.{portion, portions, covered, rest}
+use Rattle.cover.specs.Cover.{portion, portions, covered, uncovered}
 use Rattle.cover.proofs.Portions.{conserved, covered-length, covered-at, zero-covers-zero}
 use Rattle.cover.specs.declared.protection.Protection.{Protection}
 use Rattle.deal.specs.Items.{listLimit}
@@ -28,7 +28,7 @@ use Rattle.relief.specs.declared.guarantee.GuaranteeReport.{GuaranteeRep
 use Rattle.relief.specs.declared.report.Report.{Report}
 use Rattle.relief.specs.Outcomes.{outcomeValue, outcomeGround}
 use Rattle.relief.specs.Recognition.{guaranteeOutcome, protectionOf}
-use Rattle.relief.specs.Exposure.{exposureAfter, piecesOf, weightedAmount}
+use Rattle.relief.specs.Exposure.{exposureAfter, piecesOf, riskWeightedAmountOf}
 use Rattle.relief.specs.Report.{noGuarantee, guaranteeReports, fullReport, refusedReport, reportRefusal, reportUnder}
 use Rattle.relief.proofs.Outcomes.{left-out-value}
 use Rattle.relief.proofs.Amounts.{exposure-bound}
@@ -53,9 +53,9 @@ module _ (table : Table) (d : Deal) where
   every-report P full refused = either P (accepted d) full (λ e. refused)
 
   -- the amounts of an accepted deal
-  pub weighted-of : accepted d ≡ true → reportUnder table d .weighted ≡ weightedAmount table (viewOf d)
+  pub rwa-of : accepted d ≡ true → reportUnder table d .rwa ≡ riskWeightedAmountOf table (viewOf d)
   unfolding fullReport
-  weighted-of e = ap (λ r. r .weighted) (report-accepted e)
+  rwa-of e = ap (λ r. r .rwa) (report-accepted e)
 
   pub exposure-of : accepted d ≡ true → reportUnder table d .exposure ≡ exposureAfter table (viewOf d)
   unfolding fullReport
@@ -92,10 +92,10 @@ module _ (table : Table) (v : View) where
 
 -- THE PORTIONS AND THE REST MAKE UP THE EXPOSURE, IN EVERY REPORT
 pub report-conserved : (table : Table) (d : Deal) →
-    sumOf (λ r. r .portion) (reportUnder table d .guarantees) + reportUnder table d .rest ≡ reportUnder table d .exposure
+    sumOf (λ r. r .portion) (reportUnder table d .guarantees) + reportUnder table d .uncovered ≡ reportUnder table d .exposure
 unfolding fullReport
 report-conserved table d =
-    every-report table d (λ r. sumOf (λ g. g .portion) (r .guarantees) + r .rest ≡ r .exposure)
+    every-report table d (λ r. sumOf (λ g. g .portion) (r .guarantees) + r .uncovered ≡ r .exposure)
     (λ e.
     let v = viewOf d in
     omega (

@@ -16,7 +16,7 @@ use Rattle.scaling.proofs.Scaled.{scaled-bound}
 use Rattle.scaling.proofs.Periods.{period-bound}
 use Rattle.valuation.proofs.Values.{recognised-le}
 use Rattle.cover.specs.Cover.{weightedSum}
-use Rattle.cover.specs.Limits.{small}
+use Rattle.cover.specs.Limits.{withinLimits}
 use Rattle.cover.proofs.Laws.{weighted-bound}
 use Rattle.deal.specs.Editions.{tableFor}
 use Rattle.deal.specs.Items.{guaranteeRefusal}
@@ -27,8 +27,8 @@ use Rattle.deal.specs.declared.collateral.Collateral.{Collateral}
 use Rattle.deal.specs.declared.guarantee.Guarantee.{Guarantee}
 use Rattle.relief.specs.Outcomes.{outcomeValue}
 use Rattle.relief.specs.Recognition.{collateralValue, collateralGrounds, collateralGround, collateralOutcome, counterpartyWeightOf, guaranteeValue, guaranteeGrounds, guaranteeGround, guaranteeOutcome, providerWeightOf, protectionOf}
-use Rattle.relief.specs.Exposure.{exposureAfter, lentCut, piecesOf}
-use Rattle.relief.proofs.Amounts.{all-lighter, exposure-bound}
+use Rattle.relief.specs.Exposure.{exposureAfter, scaledLentHaircut, piecesOf}
+use Rattle.relief.proofs.Amounts.{all-lower-weighted, exposure-bound}
 use Rattle.relief.proofs.Outcomes.{value-bound}
 use Rattle.relief.proofs.Recognition.{collateral-leaves, guarantee-leaves}
 
@@ -43,9 +43,9 @@ module _ (table : Table) (t : Terms) where
   guarantee-le g = value-bound _ (g .amount) (guaranteeGrounds table t g) (guarantee-leaves table t _ g) (recognised-le (g .amount) _ _ _)
 
 -- the goods lent
-pub lent-cut-bound : (t : Terms) → PlainTerms t → lentCut (tableFor t) t ≤ 10000000
-unfolding lentCut tableFor
-lent-cut-bound t p =
+pub scaled-lent-haircut-bound : (t : Terms) → PlainTerms t → scaledLentHaircut (tableFor t) t ≤ 10000000
+unfolding scaledLentHaircut tableFor
+scaled-lent-haircut-bound t p =
     let h : tableFor t .lentHaircut (t .lent .goods) (t .lent .step) (t .lent .life) ≤ 1000000 = omega (arith, lent-bound (t .lent .goods) (t .lent .step) (t .lent .life)) in
     scaled-bound h (omega (arith, period-bound (t .kind) (t .interval), p .interval))
 
@@ -59,12 +59,12 @@ unfolding tableFor
 provider-low t g p = omega (arith, provider-bound (g .provider .class) (g .provider .step) (p .class .1) (p .step))
 
 -- what covers: values to the limit of an amount, and these weights
-pub pieces-small : (t : Terms) (gs : List Guarantee) → allPass gs (λ g. eqb (guaranteeRefusal g) 0) ≡ true → allPass (map (protectionOf (tableFor t) t) gs) small ≡ true
-unfolding small
+pub pieces-small : (t : Terms) (gs : List Guarantee) → allPass gs (λ g. eqb (guaranteeRefusal g) 0) ≡ true → allPass (map (protectionOf (tableFor t) t) gs) withinLimits ≡ true
+unfolding withinLimits
 pieces-small t gs e =
-    rw (all-map (protectionOf (tableFor t) t) small gs) (all-implied (λ g. eqb (guaranteeRefusal g) 0) (λ g. small (protectionOf (tableFor t) t g)) one gs e)
+    rw (all-map (protectionOf (tableFor t) t) withinLimits gs) (all-implied (λ g. eqb (guaranteeRefusal g) 0) (λ g. withinLimits (protectionOf (tableFor t) t g)) one gs e)
   where
-    one : (g : Guarantee) → eqb (guaranteeRefusal g) 0 ≡ true → small (protectionOf (tableFor t) t g) ≡ true
+    one : (g : Guarantee) → eqb (guaranteeRefusal g) 0 ≡ true → withinLimits (protectionOf (tableFor t) t g) ≡ true
     one g q =
         let p = plain-guarantee g (eqb-true _ 0 q) in
         and-true _ _ (le-leb _ _ (le-trans (guarantee-le (tableFor t) t g) (p .amount))) (le-leb _ _ (provider-low t g p))
@@ -75,5 +75,5 @@ pub sum-low : (v : View) → PlainTerms (v .terms) →
     weightedSum (counterpartyWeightOf table (v .terms)) (exposureAfter table v) (piecesOf table v) ≤ 1000000000000 * 1000
 sum-low v p =
     let table = tableFor (v .terms) in
-    le-trans (weighted-bound _ _ (piecesOf table v) (all-lighter table v))
+    le-trans (weighted-bound _ _ (piecesOf table v) (all-lower-weighted table v))
     (mul-le-mul (le-trans (exposure-bound table v) (p .amount)) (counterparty-low (v .terms) p))

@@ -5,7 +5,7 @@ use Rattle.base.specs.Sum.{sumOf}
 use Rattle.tables.specs.Table.{Table}
 use Rattle.scaling.specs.Period.{holdingPeriod}
 use Rattle.scaling.specs.Scaling.{scaled}
-use Rattle.valuation.specs.Exposure.{raised, weighted}
+use Rattle.valuation.specs.Exposure.{volatilityAdjustedExposure, riskWeightedAmount}
 use Rattle.cover.specs.Cover.{weightedSum}
 use Rattle.cover.specs.declared.protection.Protection.{Protection}
 use Rattle.deal.specs.Views.{View}
@@ -15,12 +15,12 @@ use Rattle.relief.specs.Outcomes.{outcomeValue}
 use Rattle.relief.specs.Recognition.{collateralOutcome, protectionOf, counterpartyWeightOf}
 
 -- the lent goods' haircut, over the deal's own period
-unfoldable pub lentCut : Table → Terms → ℕ
-lentCut table t = scaled (table .lentHaircut (t .lent .goods) (t .lent .step) (t .lent .life)) (holdingPeriod (t .kind) (t .interval))
+unfoldable pub scaledLentHaircut : Table → Terms → ℕ
+scaledLentHaircut table t = scaled (table .lentHaircut (t .lent .goods) (t .lent .step) (t .lent .life)) (holdingPeriod (t .kind) (t .interval))
 
 -- "The exposure is raised by the lent goods' haircut, rounded up". CRE22.40, E · (1 + He)
-unfoldable pub raisedExposure : Table → Terms → ℕ
-raisedExposure table t = raised (t .amount) (lentCut table t)
+unfoldable pub adjustedExposureOf : Table → Terms → ℕ
+adjustedExposureOf table t = volatilityAdjustedExposure (t .amount) (scaledLentHaircut table t)
 
 -- "all collateral values"
 unfoldable pub collateralTotal : Table → Terms → List Collateral → ℕ
@@ -29,7 +29,7 @@ collateralTotal table t cs = sumOf (λ c. outcomeValue (collateralOutcome table 
 -- "E* is that less all collateral values, not below 0, and never above the deal's amount (22.4 decides over 22.40)" (the library's
 -- difference is never below 0)
 unfoldable pub exposureAfter : Table → View → ℕ
-exposureAfter table v = min (v .terms .amount) (raisedExposure table (v .terms) - collateralTotal table (v .terms) (v .collateral))
+exposureAfter table v = min (v .terms .amount) (adjustedExposureOf table (v .terms) - collateralTotal table (v .terms) (v .collateral))
 
 -- what there is to cover it: the guarantees in order of adding, with value 0 where they are left out. In which order they cover is said in
 -- cover/specs/Cover
@@ -37,5 +37,5 @@ abbrev pub piecesOf : Table → View → List Protection
 piecesOf table v = map (protectionOf table (v .terms)) (v .guarantees)
 
 -- "The weighted amount is the sum of portion × weight, divided by 100 once and rounded up"
-unfoldable pub weightedAmount : Table → View → ℕ
-weightedAmount table v = weighted (weightedSum (counterpartyWeightOf table (v .terms)) (exposureAfter table v) (piecesOf table v))
+unfoldable pub riskWeightedAmountOf : Table → View → ℕ
+riskWeightedAmountOf table v = riskWeightedAmount (weightedSum (counterpartyWeightOf table (v .terms)) (exposureAfter table v) (piecesOf table v))

@@ -7,7 +7,7 @@ use lib.Dec.{leb, ltb, eqb}
 use Rattle.base.specs.FirstMet.{Test, _when_, firstMet}
 use Rattle.tables.specs.Table.{Table}
 use Rattle.scaling.specs.Period.{holdingPeriod, guaranteePeriod}
-use Rattle.valuation.specs.Haircuts.{collateralCut, currencyCut}
+use Rattle.valuation.specs.Haircuts.{combinedHaircut, scaledCurrencyHaircut}
 use Rattle.valuation.specs.Protection.{isMismatch, recognised}
 use Rattle.cover.specs.declared.protection.Protection.{Protection}
 use Rattle.deal.specs.declared.terms.Terms.{Terms}
@@ -26,13 +26,13 @@ shortResidual t residual = isMismatch residual (t .residual) && leb residual 90
 -- Collateral
 
 -- the haircut of its goods and, in another currency than the deal's, the currency haircut, each scaled over the deal's own n
-unfoldable pub cutOf : Table → Terms → Collateral → ℕ
-cutOf table t c =
-    collateralCut (table .haircut (c .asset .goods) (c .asset .step) (c .asset .life)) (c .currency) (t .currency) (holdingPeriod (t .kind) (t .interval))
+unfoldable pub combinedHaircutOf : Table → Terms → Collateral → ℕ
+combinedHaircutOf table t c =
+    combinedHaircut (table .haircut (c .asset .goods) (c .asset .step) (c .asset .life)) (c .currency) (t .currency) (holdingPeriod (t .kind) (t .interval))
 
 -- what it is worth where no ground leaves it out
 unfoldable pub collateralValue : Table → Terms → Collateral → ℕ
-collateralValue table t c = recognised (c .amount) (cutOf table t c) (c .residual) (t .residual)
+collateralValue table t c = recognised (c .amount) (combinedHaircutOf table t c) (c .residual) (t .residual)
 
 -- "21 not lawful; 22 related; 23 already in the rating; 24 not eligible by type and step ..; 25 mismatch with original term under 360;
 -- 26 mismatch with residual term of 90 or less"
@@ -40,7 +40,7 @@ unfoldable pub collateralGrounds : Table → Terms → Collateral → List (Test
 collateralGrounds table t c =
     21 when eqb (c .lawful) 0
     ∷ 22 when eqb (c .unrelated) 0
-    ∷ 23 when eqb (c .unreflected) 0
+    ∷ 23 when eqb (c .«not_in_rating») 0
     ∷ 24 when not (table .eligible (c .asset .goods) (c .asset .step) (c .listed))
     ∷ 25 when shortOriginal t (c .residual) (c .original)
     ∷ 26 when shortResidual t (c .residual)
@@ -72,14 +72,14 @@ isUnratedEntity g = eqb (g .provider .class) otherEntity && eqb (g .provider .st
 -- what it is worth where no ground leaves it out: "Guarantees have only the currency haircut", which "always uses n = interval + 9"
 unfoldable pub guaranteeValue : Terms → Guarantee → ℕ
 guaranteeValue t g =
-    recognised (g .amount) (currencyCut (g .currency) (t .currency) (guaranteePeriod (t .interval))) (g .residual) (t .residual)
+    recognised (g .amount) (scaledCurrencyHaircut (g .currency) (t .currency) (guaranteePeriod (t .interval))) (g .residual) (t .residual)
 
 -- "21; 27 not direct; 23; 28 other entity unrated; 25; 26; 29 provider's weight not below the counterparty's"
 unfoldable pub guaranteeGrounds : Table → Terms → Guarantee → List (Test ℕ)
 guaranteeGrounds table t g =
     21 when eqb (g .lawful) 0
     ∷ 27 when eqb (g .direct) 0
-    ∷ 23 when eqb (g .unreflected) 0
+    ∷ 23 when eqb (g .«not_in_rating») 0
     ∷ 28 when isUnratedEntity g
     ∷ 25 when shortOriginal t (g .residual) (g .original)
     ∷ 26 when shortResidual t (g .residual)

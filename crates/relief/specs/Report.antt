@@ -6,7 +6,7 @@ use Rattle.base.specs.Choice.{if_then_else_}
 use Rattle.base.specs.FirstMet.{_when_, firstMet}
 use Rattle.base.specs.Places.{inPlaces}
 use Rattle.tables.specs.Table.{Table}
-use Rattle.cover.specs.Cover.{portions, rest}
+use Rattle.cover.specs.Cover.{portions, uncovered}
 use Rattle.deal.specs.Items.{listLimit}
 use Rattle.deal.specs.Deals.{accepted}
 use Rattle.deal.specs.Editions.{tableFor}
@@ -20,7 +20,7 @@ use Rattle.relief.specs.declared.collateral.CollateralReport.{Collateral
 use Rattle.relief.specs.declared.guarantee.GuaranteeReport.{GuaranteeReport}
 use Rattle.relief.specs.declared.report.Report.{Report}
 use Rattle.relief.specs.Recognition.{collateralOutcome, guaranteeOutcome}
-use Rattle.relief.specs.Exposure.{exposureAfter, piecesOf, weightedAmount}
+use Rattle.relief.specs.Exposure.{exposureAfter, piecesOf, riskWeightedAmountOf}
 
 -- "Places past a count hold value 0 and portion 0"
 abbrev pub noCollateral : CollateralReport
@@ -48,8 +48,8 @@ fullReport table v = record {
   exposure = exposureAfter table v;
   collateral = inPlaces listLimit noCollateral (collateralReports table v);
   guarantees = inPlaces listLimit noGuarantee (guaranteeReports table v);
-  rest = rest (exposureAfter table v) (piecesOf table v);
-  weighted = weightedAmount table v;
+  uncovered = uncovered (exposureAfter table v) (piecesOf table v);
+  rwa = riskWeightedAmountOf table v;
 }
 
 -- "40 is its one refusal"
@@ -63,8 +63,8 @@ refusedReport = record {
   exposure = 0;
   collateral = inPlaces listLimit noCollateral [];
   guarantees = inPlaces listLimit noGuarantee [];
-  rest = 0;
-  weighted = 0;
+  uncovered = 0;
+  rwa = 0;
 }
 
 -- the report of a deal under a table

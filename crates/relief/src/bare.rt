@@ -4,31 +4,31 @@ ghost use Rattle.deal.specs.Editions.{tableFor};
 ghost use Rattle.deal.specs.Terms.{termsRefusal};
 ghost use Rattle.deal.specs.Views.{unprotected};
 ghost use Rattle.scaling.specs.Period.{holdingPeriod};
-ghost use Rattle.scaling.specs.Root.{Rooted};
-ghost use Rattle.relief.specs.Exposure.{exposureAfter, weightedAmount};
+ghost use Rattle.scaling.specs.TimeFactor.{IsTimeFactor};
+ghost use Rattle.relief.specs.Exposure.{exposureAfter, riskWeightedAmountOf};
 use crate::exposure::exposure_after;
-use crate::exposure::lent_cut;
+use crate::exposure::scaled_lent_haircut;
 use crate::weight::weight_of;
 use deal::terms::Terms;
-use scaling::root::Root;
-use valuation::exposure::weighted;
+use scaling::factor::TimeFactor;
+use valuation::exposure::risk_weighted_amount;
 
 pub struct Amounts {
     // The exposure after collateral, E*.
     pub exposure: u64,
     // The risk-weighted amount.
-    pub weighted: u64,
+    pub rwa: u64,
 }
 
 // What the report of such a deal has.
-pub fn bare_amounts(terms: Terms, root: Root) -> Amounts
-    requires { ⌜ (termsRefusal terms ≡ 0) × ((root .period ≡ holdingPeriod (terms .kind) (terms .interval)) × Rooted root) ⌝ }
-    ensures { λ r. ⌜ (r .exposure ≡ exposureAfter (tableFor terms) (unprotected terms)) × (r .weighted ≡ weightedAmount (tableFor terms) (unprotected terms)) ⌝ }
+pub fn bare_amounts(terms: Terms, factor: TimeFactor) -> Amounts
+    requires { ⌜ (termsRefusal terms ≡ 0) × ((factor .period ≡ holdingPeriod (terms .kind) (terms .interval)) × IsTimeFactor factor) ⌝ }
+    ensures { λ r. ⌜ (r .exposure ≡ exposureAfter (tableFor terms) (unprotected terms)) × (r .rwa ≡ riskWeightedAmountOf (tableFor terms) (unprotected terms)) ⌝ }
 {
-    let exposure = exposure_after(terms, lent_cut(terms, root), 0);
+    let exposure = exposure_after(terms, scaled_lent_haircut(terms, factor), 0);
     let weight = weight_of(terms);
     Amounts {
         exposure,
-        weighted: weighted(exposure * weight),
+        rwa: risk_weighted_amount(exposure * weight),
     }
 }

@@ -7,8 +7,8 @@ ghost use Rattle.deal.specs.Editions.{tableFor};
 ghost use Rattle.deal.specs.Items.{collateralListAllowed, countedCollateral, listLimit};
 ghost use Rattle.base.specs.Places.{inPlaces};
 ghost use Rattle.scaling.specs.Period.{holdingPeriod};
-ghost use Rattle.scaling.specs.Root.{Rooted};
-ghost use Rattle.relief.specs.Recognition.{collateralOutcome, cutOf};
+ghost use Rattle.scaling.specs.TimeFactor.{IsTimeFactor};
+ghost use Rattle.relief.specs.Recognition.{collateralOutcome, combinedHaircutOf};
 ghost use Rattle.relief.specs.Exposure.{collateralTotal};
 ghost use Rattle.relief.specs.Report.{collateralReport, noCollateral};
 use crate::ground::Ground;
@@ -18,10 +18,10 @@ use crate::outcome::Outcome;
 use deal::collateral::Collateral;
 use deal::collateral::CollateralList;
 use deal::terms::Terms;
-use scaling::root::Root;
+use scaling::factor::TimeFactor;
 use tables::eligibility::eligible;
 use tables::haircuts::haircut;
-use valuation::haircuts::collateral_cut;
+use valuation::haircuts::combined_haircut;
 use valuation::protection::recognised;
 
 pub struct CollateralReport {
@@ -35,8 +35,8 @@ pub struct CollateralValues {
 }
 
 // The first ground that applies, or the value after these haircuts.
-fn outcome_after_cut(terms: Terms, item: Collateral, cut: u64) -> Outcome
-    requires { ⌜ (item .amount ≤ 1000000000000) × (cut ≡ cutOf (tableFor terms) terms item) ⌝ }
+fn outcome_after_haircut(terms: Terms, item: Collateral, haircut: u64) -> Outcome
+    requires { ⌜ (item .amount ≤ 1000000000000) × (haircut ≡ combinedHaircutOf (tableFor terms) terms item) ⌝ }
     ensures { λ r. ⌜ r ≡ collateralOutcome (tableFor terms) terms item ⌝ }
 {
     let asset = item.asset;
@@ -46,7 +46,7 @@ fn outcome_after_cut(terms: Terms, item: Collateral, cut: u64) -> Outcome
     if item.unrelated == 0 {
         return Outcome::LeftOut(Ground::Related);
     }
-    if item.unreflected == 0 {
+    if item.not_in_rating == 0 {
         return Outcome::LeftOut(Ground::AlreadyInRating);
     }
     if !eligible(asset.goods, asset.step, item.listed) {
@@ -58,23 +58,23 @@ fn outcome_after_cut(terms: Terms, item: Collateral, cut: u64) -> Outcome
     if short_residual(terms, item.residual) {
         return Outcome::LeftOut(Ground::ShortResidualTerm);
     }
-    Outcome::Valued(recognised(item.amount, cut, item.residual, terms.residual))
+    Outcome::Valued(recognised(item.amount, haircut, item.residual, terms.residual))
 }
 
 // One item of collateral, under the root of the deal's period.
-pub fn value_item(terms: Terms, item: Collateral, root: Root) -> Outcome
-    requires { ⌜ (item .amount ≤ 1000000000000) × ((root .period ≡ holdingPeriod (terms .kind) (terms .interval)) × Rooted root) ⌝ }
+pub fn collateral_outcome(terms: Terms, item: Collateral, factor: TimeFactor) -> Outcome
+    requires { ⌜ (item .amount ≤ 1000000000000) × ((factor .period ≡ holdingPeriod (terms .kind) (terms .interval)) × IsTimeFactor factor) ⌝ }
     ensures { λ r. ⌜ r ≡ collateralOutcome (tableFor terms) terms item ⌝ }
 {
     let asset = item.asset;
     let own = haircut(asset.goods, asset.step, asset.life);
-    let cut = collateral_cut(root, own, item.currency, terms.currency);
-    outcome_after_cut(terms, item, cut)
+    let haircut = combined_haircut(factor, own, item.currency, terms.currency);
+    outcome_after_haircut(terms, item, haircut)
 }
 
 // Every item of a deal's collateral.
-pub fn value_collateral(terms: Terms, list: CollateralList, root: Root) -> CollateralValues
-    requires { ⌜ (collateralListAllowed list ≡ true) × ((root .period ≡ holdingPeriod (terms .kind) (terms .interval)) × Rooted root) ⌝ }
+pub fn value_collateral(terms: Terms, list: CollateralList, factor: TimeFactor) -> CollateralValues
+    requires { ⌜ (collateralListAllowed list ≡ true) × ((factor .period ≡ holdingPeriod (terms .kind) (terms .interval)) × IsTimeFactor factor) ⌝ }
     ensures { λ r. ⌜ (r .reports ≡ inPlaces listLimit noCollateral (map (collateralReport (tableFor terms) terms) (countedCollateral list))) × (r .total ≡ collateralTotal (tableFor terms) terms (countedCollateral list)) ⌝ }
 {
     let items = list.items;
@@ -87,7 +87,7 @@ pub fn value_collateral(terms: Terms, list: CollateralList, root: Root) -> Colla
     let mut i: usize = 0;
     while i < count {
         let item = items[i];
-        let outcome = value_item(terms, item, root);
+        let outcome = collateral_outcome(terms, item, factor);
         reports[i] = CollateralReport { outcome };
         total += outcome.value();
         i += 1;

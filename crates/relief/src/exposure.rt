@@ -4,29 +4,29 @@ ghost use Prim.Native.Nat.{min, _-_};
 ghost use Rattle.deal.specs.Editions.{tableFor};
 ghost use Rattle.deal.specs.Terms.{termsRefusal};
 ghost use Rattle.scaling.specs.Period.{holdingPeriod};
-ghost use Rattle.scaling.specs.Root.{Rooted};
-ghost use Rattle.relief.specs.Exposure.{lentCut, raisedExposure};
+ghost use Rattle.scaling.specs.TimeFactor.{IsTimeFactor};
+ghost use Rattle.relief.specs.Exposure.{scaledLentHaircut, adjustedExposureOf};
 use base::smaller;
 use deal::terms::Terms;
-use scaling::root::Root;
+use scaling::factor::TimeFactor;
 use tables::haircuts::lent_haircut;
-use valuation::exposure::raised;
+use valuation::exposure::volatility_adjusted_exposure;
 
 // The haircut of the goods lent, over the deal's holding period.
-pub fn lent_cut(terms: Terms, root: Root) -> u64
-    requires { ⌜ (root .period ≡ holdingPeriod (terms .kind) (terms .interval)) × Rooted root ⌝ }
-    ensures { λ r. ⌜ r ≡ lentCut (tableFor terms) terms ⌝ }
+pub fn scaled_lent_haircut(terms: Terms, factor: TimeFactor) -> u64
+    requires { ⌜ (factor .period ≡ holdingPeriod (terms .kind) (terms .interval)) × IsTimeFactor factor ⌝ }
+    ensures { λ r. ⌜ r ≡ scaledLentHaircut (tableFor terms) terms ⌝ }
 {
     let lent = terms.lent;
-    root.scale(lent_haircut(lent.goods, lent.step, lent.life))
+    factor.scale(lent_haircut(lent.goods, lent.step, lent.life))
 }
 
 // The exposure raised by that haircut, less the collateral's total, and never more than the deal's amount.
-pub fn exposure_after(terms: Terms, cut: u64, total: u64) -> u64
-    requires { ⌜ (termsRefusal terms ≡ 0) × (cut ≡ lentCut (tableFor terms) terms) ⌝ }
-    ensures { λ r. ⌜ r ≡ min (terms .amount) (raisedExposure (tableFor terms) terms - total) ⌝ }
+pub fn exposure_after(terms: Terms, haircut: u64, total: u64) -> u64
+    requires { ⌜ (termsRefusal terms ≡ 0) × (haircut ≡ scaledLentHaircut (tableFor terms) terms) ⌝ }
+    ensures { λ r. ⌜ r ≡ min (terms .amount) (adjustedExposureOf (tableFor terms) terms - total) ⌝ }
 {
-    let exposure = raised(terms.amount, cut);
+    let exposure = volatility_adjusted_exposure(terms.amount, haircut);
     if exposure <= total {
         return 0;
     }

@@ -8,11 +8,11 @@ ghost use Rattle.base.specs.Places.{inPlaces};
 ghost use Rattle.deal.specs.Editions.{tableFor};
 ghost use Rattle.deal.specs.Items.{countedGuarantees, guaranteeListAllowed, guaranteeRefusal, listLimit};
 ghost use Rattle.scaling.specs.Period.{guaranteePeriod};
-ghost use Rattle.scaling.specs.Root.{Rooted};
-ghost use Rattle.valuation.specs.Haircuts.{currencyCut};
+ghost use Rattle.scaling.specs.TimeFactor.{IsTimeFactor};
+ghost use Rattle.valuation.specs.Haircuts.{scaledCurrencyHaircut};
 ghost use Rattle.relief.specs.Recognition.{counterpartyWeightOf, guaranteeOutcome, isUnratedEntity, protectionOf, providerWeightOf};
 ghost use Rattle.relief.specs.Report.{noGuarantee};
-ghost use Rattle.relief.specs.Working.{covering, noProtection, uncovered};
+ghost use Rattle.relief.specs.Working.{covering, noProtection, withoutPortion};
 use crate::ground::Ground;
 use crate::maturity::short_original;
 use crate::maturity::short_residual;
@@ -21,9 +21,9 @@ use cover::protection::Protection;
 use deal::guarantee::Guarantee;
 use deal::guarantee::GuaranteeList;
 use deal::terms::Terms;
-use scaling::root::Root;
+use scaling::factor::TimeFactor;
 use tables::weights::provider_weight;
-use valuation::haircuts::currency_cut;
+use valuation::haircuts::scaled_currency_haircut;
 use valuation::protection::recognised;
 
 const OTHER_ENTITY: u64 = 3;
@@ -35,7 +35,7 @@ pub struct GuaranteeReport {
 }
 
 // One guarantee's outcome, and what it covers with.
-pub struct GuaranteeOutcome {
+pub struct ValuedGuarantee {
     pub outcome: Outcome,
     pub protection: Protection,
 }
@@ -56,10 +56,10 @@ fn unrated_entity(item: Guarantee) -> bool
     provider.step == 0
 }
 
-// The first ground that applies, or the value after this haircut. `weight` is the provider's, `limit` the counterparty's.
-fn outcome_after_cut(terms: Terms, item: Guarantee, cut: u64, weight: u64, limit: u64) -> Outcome
-    requires { ⌜ (item .amount ≤ 1000000000000) × (cut ≡ currencyCut (item .currency) (terms .currency) (guaranteePeriod (terms .interval))) ⌝ }
-    requires { ⌜ (weight ≡ providerWeightOf (tableFor terms) item) × (limit ≡ counterpartyWeightOf (tableFor terms) terms) ⌝ }
+// The first ground that applies, or the value after this haircut. `weight` is the provider's, `counterparty_weight` the counterparty's.
+fn outcome_after_haircut(terms: Terms, item: Guarantee, haircut: u64, weight: u64, counterparty_weight: u64) -> Outcome
+    requires { ⌜ (item .amount ≤ 1000000000000) × (haircut ≡ scaledCurrencyHaircut (item .currency) (terms .currency) (guaranteePeriod (terms .interval))) ⌝ }
+    requires { ⌜ (weight ≡ providerWeightOf (tableFor terms) item) × («counterparty_weight» ≡ counterpartyWeightOf (tableFor terms) terms) ⌝ }
     ensures { λ r. ⌜ r ≡ guaranteeOutcome (tableFor terms) terms item ⌝ }
 {
     if item.lawful == 0 {
@@ -68,7 +68,7 @@ fn outcome_after_cut(terms: Terms, item: Guarantee, cut: u64, weight: u64, limit
     if item.direct == 0 {
         return Outcome::LeftOut(Ground::NotDirect);
     }
-    if item.unreflected == 0 {
+    if item.not_in_rating == 0 {
         return Outcome::LeftOut(Ground::AlreadyInRating);
     }
     if unrated_entity(item) {
@@ -80,24 +80,24 @@ fn outcome_after_cut(terms: Terms, item: Guarantee, cut: u64, weight: u64, limit
     if short_residual(terms, item.residual) {
         return Outcome::LeftOut(Ground::ShortResidualTerm);
     }
-    if weight >= limit {
+    if weight >= counterparty_weight {
         return Outcome::LeftOut(Ground::WeightNotBelow);
     }
-    Outcome::Valued(recognised(item.amount, cut, item.residual, terms.residual))
+    Outcome::Valued(recognised(item.amount, haircut, item.residual, terms.residual))
 }
 
-// One guarantee; `limit` is the counterparty's weight, `root` that of the guarantees' period.
-pub fn value_item(terms: Terms, item: Guarantee, limit: u64, root: Root) -> GuaranteeOutcome
-    requires { ⌜ (guaranteeRefusal item ≡ 0) × (limit ≡ counterpartyWeightOf (tableFor terms) terms) ⌝ }
-    requires { ⌜ (root .period ≡ guaranteePeriod (terms .interval)) × Rooted root ⌝ }
+// One guarantee; `counterparty_weight` is the counterparty's weight, `root` that of the guarantees' period.
+pub fn guarantee_outcome(terms: Terms, item: Guarantee, counterparty_weight: u64, factor: TimeFactor) -> ValuedGuarantee
+    requires { ⌜ (guaranteeRefusal item ≡ 0) × («counterparty_weight» ≡ counterpartyWeightOf (tableFor terms) terms) ⌝ }
+    requires { ⌜ (factor .period ≡ guaranteePeriod (terms .interval)) × IsTimeFactor factor ⌝ }
     ensures { λ r. ⌜ (r .outcome ≡ guaranteeOutcome (tableFor terms) terms item) × (r .protection ≡ protectionOf (tableFor terms) terms item) ⌝ }
 {
     let provider = item.provider;
     let weight = provider_weight(provider.class, provider.step);
-    let cut = currency_cut(root, item.currency, terms.currency);
-    let outcome = outcome_after_cut(terms, item, cut, weight, limit);
+    let haircut = scaled_currency_haircut(factor, item.currency, terms.currency);
+    let outcome = outcome_after_haircut(terms, item, haircut, weight, counterparty_weight);
     let value = outcome.value();
-    GuaranteeOutcome {
+    ValuedGuarantee {
         outcome,
         protection: Protection { value, weight },
     }
@@ -107,12 +107,12 @@ pub fn value_item(terms: Terms, item: Guarantee, limit: u64, root: Root) -> Guar
 pub fn value_guarantees(
     terms: Terms,
     list: GuaranteeList,
-    limit: u64,
-    root: Root,
+    counterparty_weight: u64,
+    factor: TimeFactor,
 ) -> GuaranteeValues
-    requires { ⌜ (guaranteeListAllowed list ≡ true) × (limit ≡ counterpartyWeightOf (tableFor terms) terms) ⌝ }
-    requires { ⌜ (root .period ≡ guaranteePeriod (terms .interval)) × Rooted root ⌝ }
-    ensures { λ r. ⌜ r .reports ≡ inPlaces listLimit noGuarantee (map (uncovered (tableFor terms) terms) (countedGuarantees list)) ⌝ }
+    requires { ⌜ (guaranteeListAllowed list ≡ true) × («counterparty_weight» ≡ counterpartyWeightOf (tableFor terms) terms) ⌝ }
+    requires { ⌜ (factor .period ≡ guaranteePeriod (terms .interval)) × IsTimeFactor factor ⌝ }
+    ensures { λ r. ⌜ r .reports ≡ inPlaces listLimit noGuarantee (map (withoutPortion (tableFor terms) terms) (countedGuarantees list)) ⌝ }
     ensures { λ r. ⌜ r .protections ≡ inPlaces listLimit noProtection (map (protectionOf (tableFor terms) terms) (countedGuarantees list)) ⌝ }
 {
     let items = list.items;
@@ -126,7 +126,7 @@ pub fn value_guarantees(
     let mut i: usize = 0;
     while i < count {
         let item = items[i];
-        let valued = value_item(terms, item, limit, root);
+        let valued = guarantee_outcome(terms, item, counterparty_weight, factor);
         let outcome = valued.outcome;
         reports[i] = GuaranteeReport {
             outcome,

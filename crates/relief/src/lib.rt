@@ -8,5 +8,5 @@ pub mod guarantee;
 pub mod maturity;
 pub mod outcome;
 pub mod report;
-pub mod roots;
+pub mod factors;
 pub mod weight;

@@ -8,16 +8,16 @@ ghost use Rattle.deal.specs.Editions.{tableFor};
 ghost use Rattle.deal.specs.Views.{viewOf};
 ghost use Rattle.relief.specs.ByNumber.{collateralPlaces, guaranteePlaces, placeOf};
 ghost use Rattle.relief.specs.Report.{fullReport, refusedReport, reportOf, reportRefusal};
-ghost use Rattle.relief.specs.Working.{RootsOf};
+ghost use Rattle.relief.specs.Working.{TimeFactorsOf};
 use crate::collateral::CollateralReport;
 use crate::collateral::value_collateral;
 use crate::exposure::exposure_after;
-use crate::exposure::lent_cut;
+use crate::exposure::scaled_lent_haircut;
 use crate::guarantee::GuaranteeReport;
 use crate::guarantee::value_guarantees;
 use crate::guarantee::with_portions;
 use crate::outcome::Outcome;
-use crate::roots::Roots;
+use crate::factors::TimeFactors;
 use crate::weight::weight_of;
 use cover::cover::cover;
 use deal::answer::Answer;
@@ -25,7 +25,7 @@ use deal::collateral::CollateralList;
 use deal::deal::Deal;
 use deal::guarantee::GuaranteeList;
 use deal::terms::Terms;
-use valuation::exposure::weighted;
+use valuation::exposure::risk_weighted_amount;
 
 pub struct Report {
     pub answer: Answer,
@@ -35,9 +35,9 @@ pub struct Report {
     pub collateral: [CollateralReport; 16],
     pub guarantees: [GuaranteeReport; 16],
     // The uncovered rest of the exposure.
-    pub rest: u64,
+    pub uncovered: u64,
     // The risk-weighted amount.
-    pub weighted: u64,
+    pub rwa: u64,
 }
 
 // All zeros, beside the answer that the record is not accepted.
@@ -58,8 +58,8 @@ pub fn refused() -> Report
         exposure: 0,
         collateral,
         guarantees,
-        rest: 0,
-        weighted: 0,
+        uncovered: 0,
+        rwa: 0,
     }
 }
 
@@ -68,16 +68,16 @@ pub fn full_report(
     terms: Terms,
     collateral: CollateralList,
     guarantees: GuaranteeList,
-    roots: Roots,
+    factors: TimeFactors,
 ) -> Report
     requires { ⌜ acceptedOf (dealOf terms collateral guarantees) ≡ true ⌝ }
-    requires { ⌜ RootsOf terms roots ⌝ }
+    requires { ⌜ TimeFactorsOf terms factors ⌝ }
     ensures { λ r. ⌜ r ≡ fullReport (tableFor terms) (viewOf (dealOf terms collateral guarantees)) ⌝ }
 {
     let weight = weight_of(terms);
-    let pledged = value_collateral(terms, collateral, roots.deal);
-    let guaranteed = value_guarantees(terms, guarantees, weight, roots.guarantees);
-    let exposure = exposure_after(terms, lent_cut(terms, roots.deal), pledged.total);
+    let pledged = value_collateral(terms, collateral, factors.deal);
+    let guaranteed = value_guarantees(terms, guarantees, weight, factors.guarantees);
+    let exposure = exposure_after(terms, scaled_lent_haircut(terms, factors.deal), pledged.total);
     let protections = guaranteed.protections;
     let count = guarantees.count;
     let covered = cover(protections, count, exposure, weight);
@@ -90,8 +90,8 @@ pub fn full_report(
         exposure,
         collateral: pledges,
         guarantees: reports,
-        rest: covered.rest,
-        weighted: weighted(covered.weighted_sum),
+        uncovered: covered.uncovered,
+        rwa: risk_weighted_amount(covered.weighted_sum),
     }
 }
 
@@ -107,8 +107,8 @@ impl Report {
         let terms = deal.terms;
         let collateral = deal.collateral;
         let guarantees = deal.guarantees;
-        let none = Roots::NONE;
-        let roots = none.for_terms(terms);
-        full_report(terms, collateral, guarantees, roots)
+        let none = TimeFactors::NONE;
+        let factors = none.for_terms(terms);
+        full_report(terms, collateral, guarantees, factors)
     }
 }

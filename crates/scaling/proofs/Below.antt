@@ -4,7 +4,7 @@ use mathlib.Core.Path.{_≡_}
 use native.Mathlib.Omega.{arith}
 use native.Mathlib.Nat.{mul-le-mul, le-of-mul-le-mul-left}
 use native.Mathlib.Decide.{decLe}
-use Rattle.scaling.specs.Root.{Rooted}
+use Rattle.scaling.specs.TimeFactor.{IsTimeFactor}
 use Rattle.scaling.specs.Scaling.{scaled}
 use Rattle.scaling.proofs.Scaled.{larger, scaled-is, scaled-le}
 
@@ -38,5 +38,5 @@ share-too-small H n w c h k e q = go (decLe (H * H * n) (10 * c * c))
     go (no gt) = omega arith
 
 -- a root of no period
-pub root-none : Rooted (record { period = 0; whole = 0 })
-root-none = record { short = omega arith; scaled-whole = omega (arith, scaled-le 1000000 0 {b = 0} (omega arith)) }
+pub factor-none : IsTimeFactor (record { period = 0; millionths = 0 })
+factor-none = record { short = omega arith; scaled-millionths = omega (arith, scaled-le 1000000 0 {b = 0} (omega arith)) }

@@ -1,3 +1,3 @@
 pub mod Period
 pub mod Scaling
-pub mod Root
+pub mod TimeFactor

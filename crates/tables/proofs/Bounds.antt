@@ -12,8 +12,8 @@ use Rattle.base.proofs.Choice.{either}
 use Rattle.base.proofs.Every.{every, every-at}
 use Rattle.tables.specs.Eligibility.{eligible}
 use Rattle.tables.specs.Goods.{cash, sovereignDebt, securitisation, mainIndexEquity, otherListedEquity, gold}
-use Rattle.tables.specs.Haircuts.{cell, rowOf, bandOf, columnOf as issuerColumn, debtHaircut, haircut, lentHaircut}
-use Rattle.tables.specs.Weights.{weights, columnOf, retail, tableWeight, providerWeight, counterpartyWeight}
+use Rattle.tables.specs.Haircuts.{cell, rowOf, bandOf, issuerColumn, debtHaircut, haircut, lentHaircut}
+use Rattle.tables.specs.Weights.{weights, stepColumn, retail, tableWeight, providerWeight, counterpartyWeight}
 use Rattle.tables.proofs.Bands.{band-below}
 
 row-below : (step : ℕ) → rowOf step < 3
@@ -54,13 +54,13 @@ unfolding lentHaircut
 lent-bound goods step life =
     either Low (eligible goods step 0) (λ e. haircut-bound goods step life) (λ e. omega arith)
 
-abbrev light : ℕ → ℕ → Bool
-light c s = leb (getD (getD weights c []) (columnOf s) 0) 150
+abbrev weightBounded : ℕ → ℕ → Bool
+weightBounded c s = leb (getD (getD weights c []) (stepColumn s) 0) 150
 
 table-bound : (class step : ℕ) → class ≤ 3 → step ≤ 6 → tableWeight class step ≤ 150
-unfolding tableWeight columnOf if_then_else_
+unfolding tableWeight stepColumn if_then_else_
 table-bound class step hc hs =
-    leb-true _ _ (every-at 7 (light (class - 1)) (every-at 3 (λ c. every 7 (light c)) refl (class - 1) (omega arith)) step (omega arith))
+    leb-true _ _ (every-at 7 (weightBounded (class - 1)) (every-at 3 (λ c. every 7 (weightBounded c)) refl (class - 1) (omega arith)) step (omega arith))
 
 pub provider-bound : (class step : ℕ) → class ≤ 3 → step ≤ 6 → providerWeight class step ≤ 150
 unfolding providerWeight

@@ -10,8 +10,8 @@ use Rattle.base.specs.Range.{within}
 use Rattle.base.proofs.Every.{every, implies, both, implied, every-at}
 use Rattle.base.proofs.Tests.{and-true}
 use Rattle.tables.specs.Eligibility.{eligible, bankDebtEligible, equityOrGold}
-use Rattle.tables.specs.Haircuts.{bandOf, rowOf, columnOf as issuerColumn, debtHaircut, haircut, lentHaircut}
-use Rattle.tables.specs.Weights.{columnOf, tableWeight, providerWeight}
+use Rattle.tables.specs.Haircuts.{bandOf, rowOf, issuerColumn, debtHaircut, haircut, lentHaircut}
+use Rattle.tables.specs.Weights.{stepColumn, tableWeight, providerWeight}
 use Rattle.tables.specs.Table.{Table, TableLaws, NoWorseStep, table2019}
 use Rattle.tables.proofs.Bands.{sample, band-below, haircut-sample, lent-sample}
 
@@ -93,5 +93,5 @@ module _
 
 -- THE TABLES OF 2019 HAVE THE LAWS
 pub lawful2019 : TableLaws table2019
-unfolding eligible bankDebtEligible equityOrGold within rowOf bandOf issuerColumn debtHaircut haircut lentHaircut columnOf tableWeight providerWeight if_then_else_
+unfolding eligible bankDebtEligible equityOrGold within rowOf bandOf issuerColumn debtHaircut haircut lentHaircut stepColumn tableWeight providerWeight if_then_else_
 lawful2019 = laws-from-test table2019 sample bandOf 3 band-below haircut-sample lent-sample refl

@@ -5,8 +5,8 @@ use mathlib.Core.List.{List, [], _∷_, map}
 use Rattle.base.specs.Choice.{if_then_else_}
 use Rattle.base.specs.Range.{within}
 use Rattle.tables.specs.Eligibility.{eligible, bankDebtEligible, equityOrGold}
-use Rattle.tables.specs.Haircuts.{bandOf, rowOf, columnOf as issuerColumn, debtHaircut, haircut, lentHaircut}
-use Rattle.tables.specs.Weights.{columnOf, tableWeight, providerWeight, counterpartyWeight}
+use Rattle.tables.specs.Haircuts.{bandOf, rowOf, issuerColumn, debtHaircut, haircut, lentHaircut}
+use Rattle.tables.specs.Weights.{stepColumn, tableWeight, providerWeight, counterpartyWeight}
 
 -- at both ends of each band
 abbrev cells : ℕ → ℕ → List ℕ
@@ -52,5 +52,5 @@ weights = (100 ∷ 0 ∷ 20 ∷ 50 ∷ 100 ∷ 100 ∷ 150 ∷ []) ∷ (50 ∷ 2
 pub weighed :
     (map (λ c. map (counterpartyWeight c) steps) (1 ∷ 2 ∷ 3 ∷ []) ≡ weights)
     × ((map (λ c. map (providerWeight c) steps) (1 ∷ 2 ∷ 3 ∷ []) ≡ weights) × (counterpartyWeight 4 0 ≡ 75))
-unfolding columnOf tableWeight counterpartyWeight providerWeight if_then_else_
+unfolding stepColumn tableWeight counterpartyWeight providerWeight if_then_else_
 weighed = (refl, (refl, refl))

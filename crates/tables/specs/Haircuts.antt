@@ -30,11 +30,11 @@ unfoldable pub bandOf : ℕ → ℕ
 bandOf life = if leb life 360 then 0 else if leb life 1800 then 1 else 2
 
 -- "Bank debt is in the "other" column"
-unfoldable pub columnOf : ℕ → ℕ
-columnOf goods = if eqb goods sovereignDebt then 0 else if eqb goods securitisation then 2 else 1
+unfoldable pub issuerColumn : ℕ → ℕ
+issuerColumn goods = if eqb goods sovereignDebt then 0 else if eqb goods securitisation then 2 else 1
 
 unfoldable pub debtHaircut : ℕ → ℕ → ℕ → ℕ
-debtHaircut goods step life = cell (rowOf step) (bandOf life) (columnOf goods)
+debtHaircut goods step life = cell (rowOf step) (bandOf life) (issuerColumn goods)
 
 -- goods of this type, step and issue life; the figure counts only where they are eligible
 unfoldable pub haircut : ℕ → ℕ → ℕ → ℕ

@@ -15,11 +15,11 @@ weights =
     ∷ []
 
 -- the column of a step; step 0 is unrated, the seventh
-unfoldable pub columnOf : ℕ → ℕ
-columnOf step = if eqb step 0 then 6 else step - 1
+unfoldable pub stepColumn : ℕ → ℕ
+stepColumn step = if eqb step 0 then 6 else step - 1
 
 unfoldable pub tableWeight : ℕ → ℕ → ℕ
-tableWeight class step = getD (getD weights (class - 1) []) (columnOf step) 0
+tableWeight class step = getD (getD weights (class - 1) []) (stepColumn step) 0
 
 -- a provider of protection: 1 sovereign, 2 bank or securities firm (CRE20.16), 3 other entity. CRE22.91(1)
 unfoldable pub providerWeight : ℕ → ℕ → ℕ

@@ -1,7 +1,7 @@
 // The standard supervisory haircuts, before scaling to a holding period.
 ghost use mathlib.Core.Path.{_≡_};
 ghost use Prim.Native.Nat.{_<_};
-ghost use Rattle.tables.specs.Haircuts.{rowOf, bandOf, columnOf, debtHaircut, haircut as haircutOf, lentHaircut};
+ghost use Rattle.tables.specs.Haircuts.{rowOf, bandOf, issuerColumn, debtHaircut, haircut as haircutOf, lentHaircut};
 use crate::eligibility::eligible;
 use crate::goods::CASH;
 use crate::goods::GOLD;
@@ -64,7 +64,7 @@ fn band(life: u64) -> usize
 }
 
 fn column(goods: u64) -> usize
-    ensures { λ r. ⌜ (r ≡ columnOf goods) × (r < 3) ⌝ }
+    ensures { λ r. ⌜ (r ≡ issuerColumn goods) × (r < 3) ⌝ }
 {
     if goods == SOVEREIGN_DEBT {
         return 0;

@@ -4,27 +4,27 @@ use native.Mathlib.Omega.{arith}
 use native.Mathlib.Nat.{mul-le-mul}
 use Rattle.base.specs.Least.{Least}
 use Rattle.base.proofs.Rounding.{roundUp-mono, roundUp-is}
-use Rattle.valuation.specs.Exposure.{raised, weighted}
+use Rattle.valuation.specs.Exposure.{volatilityAdjustedExposure, riskWeightedAmount}
 
 -- a larger haircut of the goods lent, no smaller an exposure
-pub raised-mono : {a a′ cut cut′ : ℕ} → a ≤ a′ → cut ≤ cut′ → raised a cut ≤ raised a′ cut′
-unfolding raised
-raised-mono ha hc = roundUp-mono 1000000 (mul-le-mul ha (omega arith))
+pub adjusted-exposure-mono : {a a′ haircut haircut′ : ℕ} → a ≤ a′ → haircut ≤ haircut′ → volatilityAdjustedExposure a haircut ≤ volatilityAdjustedExposure a′ haircut′
+unfolding volatilityAdjustedExposure
+adjusted-exposure-mono ha hc = roundUp-mono 1000000 (mul-le-mul ha (omega arith))
 
 -- rounded up: the least amount whose millionfold covers amount × (1,000,000 + cut)
-pub raised-is : (a cut : ℕ) → Least (λ m. a * (1000000 + cut) ≤ m * 1000000) (raised a cut)
-unfolding raised
-raised-is a cut = roundUp-is (a * (1000000 + cut)) 1000000 (omega arith)
+pub adjusted-exposure-is : (a haircut : ℕ) → Least (λ m. a * (1000000 + haircut) ≤ m * 1000000) (volatilityAdjustedExposure a haircut)
+unfolding volatilityAdjustedExposure
+adjusted-exposure-is a haircut = roundUp-is (a * (1000000 + haircut)) 1000000 (omega arith)
 
 -- never below the amount
-pub raised-least : (a cut : ℕ) → a ≤ raised a cut
-raised-least a cut = omega (arith, raised-is a cut .passes)
+pub adjusted-exposure-least : (a haircut : ℕ) → a ≤ volatilityAdjustedExposure a haircut
+adjusted-exposure-least a haircut = omega (arith, adjusted-exposure-is a haircut .passes)
 
-pub weighted-mono : {x y : ℕ} → x ≤ y → weighted x ≤ weighted y
-unfolding weighted
-weighted-mono h = roundUp-mono 100 h
+pub risk-weighted-mono : {x y : ℕ} → x ≤ y → riskWeightedAmount x ≤ riskWeightedAmount y
+unfolding riskWeightedAmount
+risk-weighted-mono h = roundUp-mono 100 h
 
 -- the least amount of which x is at most a hundredfold
-pub weighted-is : (x : ℕ) → Least (λ m. x ≤ m * 100) (weighted x)
-unfolding weighted
-weighted-is x = roundUp-is x 100 (omega arith)
+pub risk-weighted-is : (x : ℕ) → Least (λ m. x ≤ m * 100) (riskWeightedAmount x)
+unfolding riskWeightedAmount
+risk-weighted-is x = roundUp-is x 100 (omega arith)

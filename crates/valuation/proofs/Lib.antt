@@ -1,3 +1,3 @@
-pub mod Cuts
+pub mod CombinedHaircut
 pub mod Values
 pub mod Amounts

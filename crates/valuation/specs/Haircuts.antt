@@ -8,9 +8,9 @@ use Rattle.scaling.specs.Scaling.{scaled}
 
 -- "Different currencies: 80000 besides". CRE22.46 for collateral; for a guarantee, which has no other haircut,
 -- CRE22.94 and CRE22.95
-unfoldable pub currencyCut : ℕ → ℕ → ℕ → ℕ
-currencyCut currency dealCurrency n = if eqb currency dealCurrency then 0 else scaled currencyHaircut n
+unfoldable pub scaledCurrencyHaircut : ℕ → ℕ → ℕ → ℕ
+scaledCurrencyHaircut currency dealCurrency n = if eqb currency dealCurrency then 0 else scaled currencyHaircut n
 
 -- collateral: its table haircut, and the currency's. CRE22.40, Hc + Hfx
-unfoldable pub collateralCut : ℕ → ℕ → ℕ → ℕ → ℕ
-collateralCut haircut currency dealCurrency n = scaled haircut n + currencyCut currency dealCurrency n
+unfoldable pub combinedHaircut : ℕ → ℕ → ℕ → ℕ → ℕ
+combinedHaircut haircut currency dealCurrency n = scaled haircut n + scaledCurrencyHaircut currency dealCurrency n

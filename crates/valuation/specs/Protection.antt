@@ -6,11 +6,11 @@ use Rattle.base.specs.Choice.{if_then_else_}
 
 -- "1,000,000 less the item's scaled haircuts, or 0 if they reach 1,000,000" (the library's difference is never below 0)
 unfoldable pub keepShare : ℕ → ℕ
-keepShare cut = 1000000 - cut
+keepShare haircut = 1000000 - haircut
 
 -- "amount × share / 1,000,000, rounded down". CRE22.40, CRE22.94
-unfoldable pub reduced : ℕ → ℕ → ℕ
-reduced amount cut = amount * keepShare cut / 1000000
+unfoldable pub volatilityAdjustedValue : ℕ → ℕ → ℕ
+volatilityAdjustedValue amount haircut = amount * keepShare haircut / 1000000
 
 -- "with T the smaller of the deal's term and 1,800, and t the smaller of T and the cover's term, the value becomes
 -- value × (t − 90) / (T − 90), rounded down again". CRE22.100; five years are 1,800 days, three months 90
@@ -24,9 +24,9 @@ mismatched value cover term =
 abbrev pub isMismatch : ℕ → ℕ → Bool
 isMismatch cover term = ltb cover term
 
-unfoldable pub adjusted : ℕ → ℕ → ℕ → ℕ
-adjusted value cover term = if isMismatch cover term then mismatched value cover term else value
+unfoldable pub maturityAdjusted : ℕ → ℕ → ℕ → ℕ
+maturityAdjusted value cover term = if isMismatch cover term then mismatched value cover term else value
 
 -- haircuts first, then a mismatch. CRE22.100(2)
 unfoldable pub recognised : ℕ → ℕ → ℕ → ℕ → ℕ
-recognised amount cut cover term = adjusted (reduced amount cut) cover term
+recognised amount haircut cover term = maturityAdjusted (volatilityAdjustedValue amount haircut) cover term

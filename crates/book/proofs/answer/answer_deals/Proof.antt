@@ -9,8 +9,8 @@ use lib.Seq.{drop-drop, length-take-le, paste, take-paste, drop-paste, length-pa
 use Rattle.base.proofs.Tests.{tests}
 use Rattle.text.specs.Text.{linesOf}
 use Rattle.text.proofs.Lines.{rest-part, no-lines-at}
-use Rattle.scaling.proofs.Below.{root-none}
-use Rattle.relief.specs.Working.{BothRooted}
+use Rattle.scaling.proofs.Below.{factor-none}
+use Rattle.relief.specs.Working.{BothTimeFactors}
 use Rattle.book.specs.Deals.{DealLines, dealsFrom, opensDeal}
 use Rattle.book.specs.Answers.{answersFrom, dealAnswer}
 use Rattle.book.specs.Working.{DealRead, ownFirst, firstDeal}
@@ -33,21 +33,21 @@ record Holds (lines before results : List ℕ) (at number deals : ℕ) : Type 0 
   behind : drop (deals * 4) results ≡ drop (deals * 4) before
 
 abbrev Inv-loop : tie.InvT-loop
-Inv-loop lines results₀ at₀ number₀ roots₀ deals₀ results at number roots deals = Holds lines results₀ results at number deals × BothRooted roots
+Inv-loop lines results₀ at₀ number₀ factors₀ deals₀ results at number factors deals = Holds lines results₀ results at number deals × BothTimeFactors factors
 
 abbrev μ-loop : tie.MeasureT-loop
-μ-loop lines results₀ at₀ number₀ roots₀ deals₀ results at number roots deals = length lines - at
+μ-loop lines results₀ at₀ number₀ factors₀ deals₀ results at number factors deals = length lines - at
 
 -- one deal more
 module _
     {lines before results : List ℕ} {at number deals : ℕ} (h : Holds lines before results at number deals) (k : at < length lines)
     {end next : ℕ} (read : DealRead number (drop at lines) end next)
-    {refusal figure weighted : ℕ} (answered : dealAnswer (firstDeal number (drop at lines)) ≡ refusal ∷ figure ∷ weighted ∷ []) where
+    {refusal figure rwa : ℕ} (answered : dealAnswer (firstDeal number (drop at lines)) ≡ refusal ∷ figure ∷ rwa ∷ []) where
   abbrev rest : List ℕ
   rest = drop at lines
 
   abbrev four : List ℕ
-  four = (deals + 1) ∷ refusal ∷ figure ∷ weighted ∷ []
+  four = (deals + 1) ∷ refusal ∷ figure ∷ rwa ∷ []
 
   long : length rest ≡ length lines - at
   long = length-drop at lines
@@ -121,7 +121,7 @@ loop-holds c =
         written = refl;
         behind = refl;
       },
-      (root-none, root-none),
+      (factor-none, factor-none),
     )
 
 sub-answer-deal : tie.Need-sub-answer-deal Inv-loop μ-loop
@@ -159,7 +159,7 @@ module _ (c : tie.After-answer-deal Inv-loop μ-loop) where
   read₁ = rw (rest-part lines₁ at₁) at (c .answer-deal .ensures .0 .0)
 
   answered₁ : dealAnswer (firstDeal (c .before .before .before .loop .number) (drop at₁ lines₁))
-      ≡ c .answer-deal .result .answer .refusal ∷ c .answer-deal .result .answer .figure ∷ c .answer-deal .result .answer .weighted ∷ []
+      ≡ c .answer-deal .result .answer .refusal ∷ c .answer-deal .result .answer .figure ∷ c .answer-deal .result .answer .rwa ∷ []
   answered₁ = rw (rest-part lines₁ at₁) at (c .answer-deal .ensures .0 .1)
 
   small : (c .before .before .before .loop .deals ≤ 65534) × ((at₁ + c .answer-deal .result .answer .end ≤ 65534) × (1 ≤ c .answer-deal .result .answer .end))

@@ -14,8 +14,8 @@ use Rattle.deal.specs.declared.terms.Terms.{Terms}
 use Rattle.lines.specs.Lines.{lineOf}
 use Rattle.book.specs.Answers.{openingRefusal, linesAnswer}
 use Rattle.book.specs.Deals.{ownLines}
-use Rattle.book.specs.Working.{firstDeal, termsSaid}
-use Rattle.book.proofs.Answering.{three, opened-answer, opening-terms, unopened-answer}
+use Rattle.book.specs.Working.{firstDeal, openingTerms}
+use Rattle.book.proofs.Answering.{componentwise, opened-answer, opening-terms, unopened-answer}
 use Rattle.book.proofs.Grouping.{opens-some}
 use Rattle.book.proofs.Passing.{deal-read}
 use Rattle.book.proofs.reading.answer_deal.Statement.{statement}
@@ -70,19 +70,19 @@ returns c =
       (
         deal-read (text e) (s .args .number) _ _ (s .pre .0 .0) (rw (ends e) at (r .1)),
         unopened-answer (firstDeal (s .args .number) (text e)) (rw told at (ne-eqb _ _ (c .before .if1 .taken)))
-            ∙ sym (three (r .0 .0 ∙ told) (r .0 .1 .0) (r .0 .1 .1)),
+            ∙ sym (componentwise (r .0 .0 ∙ told) (r .0 .1 .0) (r .0 .1 .1)),
       ),
       s .pre .1,
     )
 
-terms-said-requires : tie.Need-terms-said-requires
-terms-said-requires c κs = tt
+opening-terms-requires : tie.Need-opening-terms-requires
+opening-terms-requires c κs = tt
 
 -- the terms on it
-said : (c : tie.After-terms-said) → (c .terms-said .result ≡ termsSaid (lineOf (firstLine (text (line-ended (c .before .before)))))) × (termsRefusal (c .terms-said .result) ≡ 0)
+said : (c : tie.After-opening-terms) → (c .opening-terms .result ≡ openingTerms (lineOf (firstLine (text (line-ended (c .before .before)))))) × (termsRefusal (c .opening-terms .result) ≡ 0)
 said c =
     let o = c .before .before in
-    let e = c .terms-said .ensures ∙ ap termsSaid (read o) in
+    let e = c .opening-terms .ensures ∙ ap openingTerms (read o) in
     (e, ap termsRefusal e ∙ opening-terms _ (sym (refusal o) ∙ c .before .if1 .left))
 
 for-terms-requires : tie.Need-for-terms-requires
@@ -107,10 +107,10 @@ returns-2 c =
         deal-read (text e) (s .args .number) _ _ (s .pre .0 .0) (rw (ends e) at (c .opened .ensures .0)),
         opened-answer (firstDeal (s .args .number) (text e)) (sym (refusal o) ∙ t .before .if1 .left)
             ∙ ap (lines (length (firstLine (text e)))) (sym (said t .0))
-            ∙ ap (λ n. lines n (t .terms-said .result)) (sym (ends e))
+            ∙ ap (λ n. lines n (t .opening-terms .result)) (sym (ends e))
             ∙ c .opened .ensures .1,
       ),
-      (f .for-terms .ensures .deal-rooted, f .for-terms .ensures .guarantee-rooted),
+      (f .for-terms .ensures .deal-factor, f .for-terms .ensures .guarantee-factor),
     )
 
 pub answer-deal-spec : {M : Type 1} → statement M
@@ -123,7 +123,7 @@ answer-deal-spec =
     opening-refusal-requires
     refused-requires
     returns
-    terms-said-requires
+    opening-terms-requires
     for-terms-requires
     opened-requires
     returns-2)

@@ -2,7 +2,7 @@
 use mathlib.Core.Path.{sym, _∙_}
 use native.Mathlib.Omega.{arith}
 use Rattle.base.proofs.Tests.{told-false}
-use Rattle.book.proofs.Answering.{three}
+use Rattle.book.proofs.Answering.{componentwise}
 use Rattle.book.proofs.Held.{held-first, held-answer}
 use Rattle.book.proofs.Passing.{passed-all, read-as}
 use Rattle.book.proofs.reading.opened.Statement.{statement}
@@ -18,7 +18,7 @@ returns : tie.Need-returns
 returns c = c .with-items .ensures
 
 bare-amounts-requires : tie.Need-bare-amounts-requires
-bare-amounts-requires c κs = let s = c .before .before .before in (s .pre .0 .0, (s .pre .1 .deal-period, s .pre .1 .deal-rooted))
+bare-amounts-requires c κs = let s = c .before .before .before in (s .pre .0 .0, (s .pre .1 .deal-period, s .pre .1 .deal-factor))
 
 add-with-figures : tie.Need-add-with-figures
 add-with-figures c = let s = c .before .before .before .before in omega (arith, s .pre .0 .1 .1)
@@ -35,7 +35,7 @@ returns-2 c =
     let w = c .with-figures .ensures in
     let a = b .bare-amounts .ensures in (
       read-as (passed-all _ _ _ _ _ (first .passed) over) (w .1 .1 .1 .0) (w .1 .1 .1 .1),
-      held-answer _ _ _ _ _ _ _ _ first over ∙ sym (three (w .0) (w .1 .0 ∙ a .0) (w .1 .1 .0 ∙ a .1)),
+      held-answer _ _ _ _ _ _ _ _ first over ∙ sym (componentwise (w .0) (w .1 .0 ∙ a .0) (w .1 .1 .0 ∙ a .1)),
     )
 
 pub opened-spec : {M : Type 1} → statement M

@@ -12,18 +12,18 @@ use Rattle.text.proofs.Lines.{line-part}
 use Rattle.deal.proofs.Deals.{allowed-accepted}
 use Rattle.relief.specs.Report.{fullReport}
 use Rattle.lines.specs.Lines.{lineOf}
-use Rattle.book.proofs.Answering.{three}
+use Rattle.book.proofs.Answering.{componentwise}
 use Rattle.book.proofs.Held.{Held, LineDone, collateral-done, guarantee-done, deal-done, malformed-done, done-as, held-first, held-answer, held-refused, held-next}
 use Rattle.book.proofs.Passing.{OwnLine, own-line-ends, passed-line, passed-on, passed-all, read-as}
 use Rattle.book.proofs.reading.with_items.Statement.{statement}
 use Rattle.book.proofs.reading.with_items.Tie as tie
 
 abbrev Inv-loop : tie.InvT-loop
-Inv-loop text start number terms roots collateral₀ guarantees₀ at₀ next₀ collateral guarantees at next =
+Inv-loop text start number terms factors collateral₀ guarantees₀ at₀ next₀ collateral guarantees at next =
     Held text start number terms collateral guarantees at next
 
 abbrev μ-loop : tie.MeasureT-loop
-μ-loop text start number terms roots collateral₀ guarantees₀ at₀ next₀ collateral guarantees at next = length text - at
+μ-loop text start number terms factors collateral₀ guarantees₀ at₀ next₀ collateral guarantees at next = length text - at
 
 empty-requires : tie.Need-empty-requires Inv-loop μ-loop
 empty-requires c κs = tt
@@ -138,7 +138,7 @@ returns c =
     let passed = passed-line _ _ _ _ _ (l .inv .passed) _ (ends e) (e .line-end .ensures) in (
       passed-on _ _ _ _ _ passed _ _ (r .1),
       held-refused _ _ _ _ _ _ _ _ (l .inv) _ (ends e) (e .line-end .ensures) (done m) (ne-eqb _ _ (c .before .if2 .taken))
-          ∙ sym (three (r .0 .0) (r .0 .1 .0) (r .0 .1 .1)),
+          ∙ sym (componentwise (r .0 .0) (r .0 .1 .0) (r .0 .1 .1)),
     )
 
 add-next-2 : tie.Need-add-next-2 Inv-loop μ-loop
@@ -171,7 +171,7 @@ returns-2 c =
     let w = c .with-figures .ensures in
     let r = f .full-report .ensures in (
       read-as (passed-all _ _ _ _ _ (l .loop .inv .passed) over) (w .1 .1 .1 .0) (w .1 .1 .1 .1),
-      held-answer _ _ _ _ _ _ _ _ (l .loop .inv) over ∙ sym (three (w .0) (w .1 .0 ∙ ap (λ x. x .exposure) r) (w .1 .1 .0 ∙ ap (λ x. x .weighted) r)),
+      held-answer _ _ _ _ _ _ _ _ (l .loop .inv) over ∙ sym (componentwise (w .0) (w .1 .0 ∙ ap (λ x. x .exposure) r) (w .1 .1 .0 ∙ ap (λ x. x .rwa) r)),
     )
 
 pub with-items-spec : {M : Type 1} → statement M

@@ -9,7 +9,7 @@ use Rattle.base.proofs.All.{all-at}
 use Rattle.base.proofs.Arrays.{unmapped}
 use Rattle.base.proofs.Tests.{tests}
 use Rattle.cover.specs.Cover.{covered}
-use Rattle.cover.specs.Limits.{small}
+use Rattle.cover.specs.Limits.{withinLimits}
 use Rattle.cover.specs.declared.protection.Protection.{Protection}
 use Rattle.cover.proofs.Ahead.{none}
 use Rattle.cover.proofs.Covering.{Covering, covering-none, covering-more, covering-all, portion-left, left-le, sum-le, next-piece}
@@ -18,11 +18,11 @@ use Rattle.cover.proofs.cover.cover.Statement.{statement}
 use Rattle.cover.proofs.cover.cover.Tie as tie
 
 abbrev Inv-loop : tie.InvT-loop
-Inv-loop count exposure weight protections portions₀ rest₀ weighted-sum₀ i₀ portions rest weighted-sum i =
-    (i ≤ count) × Covering exposure (take count protections) portions rest weighted-sum i
+Inv-loop count exposure weight protections portions₀ uncovered₀ weighted-sum₀ i₀ portions uncovered weighted-sum i =
+    (i ≤ count) × Covering exposure (take count protections) portions uncovered weighted-sum i
 
 abbrev μ-loop : tie.MeasureT-loop
-μ-loop count exposure weight protections portions₀ rest₀ weighted-sum₀ i₀ portions rest weighted-sum i = count - i
+μ-loop count exposure weight protections portions₀ uncovered₀ weighted-sum₀ i₀ portions uncovered weighted-sum i = count - i
 
 long : (c : tie.Start Inv-loop μ-loop) → length (c .args .t1) ≡ 16
 long c = search (unmapped, c .good)
@@ -62,10 +62,10 @@ module _ (c : tie.After-portion Inv-loop μ-loop) where
       next-piece (at-loop .before .args .exposure) (at-loop .before .args .count) pieces (at-loop .loop .i) (c .before .covers-before .result)
       (c .portion .result) (omega arith) (omega (arith, long (at-loop .before))) (c .before .covers-before .ensures) (omega (arith, c .portion .ensures))
 
-  light : own ≤ 1000
-  light =
+  weight-bounded : own ≤ 1000
+  weight-bounded =
       let k : at-loop .loop .i < at-loop .before .args .count = omega arith in
-      let e = all-at small _ (at-loop .loop .i) pieces none k (omega (arith, long (at-loop .before))) (at-loop .before .pre .1 .1 .1) in
+      let e = all-at withinLimits _ (at-loop .loop .i) pieces none k (omega (arith, long (at-loop .before))) (at-loop .before .pre .1 .1 .1) in
       small-bounds _ e .1
 
 mul-portions : tie.Need-mul-portions Inv-loop μ-loop
@@ -74,14 +74,14 @@ mul-portions c = search tests
 array-write-portions : tie.Need-array-write-portions Inv-loop μ-loop
 array-write-portions c = search tests
 
-sub-rest : tie.Need-sub-rest Inv-loop μ-loop
-sub-rest c = portion-left (at-loop c .loop .inv .1) (next c) (counted c)
+sub-uncovered : tie.Need-sub-uncovered Inv-loop μ-loop
+sub-uncovered c = portion-left (at-loop c .loop .inv .1) (next c) (counted c)
 
 mul-weighted-sum : tie.Need-mul-weighted-sum Inv-loop μ-loop
 mul-weighted-sum c =
     let few : c .portion .result ≤ 1000000000000 =
     omega (arith, portion-left (at-loop c .loop .inv .1) (next c) (counted c), left-le (at-loop c .loop .inv .1)) in
-    omega (arith, mul-le-mul few (light c))
+    omega (arith, mul-le-mul few (weight-bounded c))
 
 add-weighted-sum : tie.Need-add-weighted-sum Inv-loop μ-loop
 add-weighted-sum c =
@@ -97,16 +97,16 @@ loop-less c = search tests
 loop-again : tie.Need-loop-again Inv-loop μ-loop
 loop-again c = (omega arith, covering-more (at-loop c .loop .inv .1) (next c) (counted c) (omega arith))
 
-rest-small : (c : tie.After-loop Inv-loop μ-loop) → c .before .loop .rest * c .before .before .args .weight ≤ 1000000000000 * 1000
-rest-small c =
+uncovered-small : (c : tie.After-loop Inv-loop μ-loop) → c .before .loop .uncovered * c .before .before .args .weight ≤ 1000000000000 * 1000
+uncovered-small c =
     let s = c .before .before in
     mul-le-mul (le-trans (left-le (c .before .loop .inv .1)) (s .pre .1 .0)) (s .pre .1 .1 .0)
 
 mul-weighted-sum-2 : tie.Need-mul-weighted-sum-2 Inv-loop μ-loop
-mul-weighted-sum-2 c = omega (arith, rest-small c)
+mul-weighted-sum-2 c = omega (arith, uncovered-small c)
 
 add-weighted-sum-2 : tie.Need-add-weighted-sum-2 Inv-loop μ-loop
-add-weighted-sum-2 c = let s = c .before .before in omega (arith, rest-small c, sum-le (c .before .loop .inv .1) (s .pre .1 .0) (s .pre .1 .1 .1))
+add-weighted-sum-2 c = let s = c .before .before in omega (arith, uncovered-small c, sum-le (c .before .loop .inv .1) (s .pre .1 .0) (s .pre .1 .1 .1))
 
 returns : tie.Need-returns Inv-loop μ-loop
 returns c =
@@ -126,7 +126,7 @@ cover-spec =
     portion-requires
     mul-portions
     array-write-portions
-    sub-rest
+    sub-uncovered
     mul-weighted-sum
     add-weighted-sum
     add-i

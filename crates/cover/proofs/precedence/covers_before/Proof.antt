@@ -8,7 +8,7 @@ use Rattle.base.specs.Sum.{sumOf}
 use Rattle.base.proofs.All.{all-at}
 use Rattle.base.proofs.Arrays.{unmapped}
 use Rattle.base.proofs.Tests.{tests}
-use Rattle.cover.specs.Limits.{small}
+use Rattle.cover.specs.Limits.{withinLimits}
 use Rattle.cover.proofs.Ahead.{none, aheadTo, ahead-le, ahead-more, ahead-all}
 use Rattle.cover.proofs.Limits.{small-bounds}
 use Rattle.cover.proofs.precedence.covers_before.Statement.{statement}
@@ -46,7 +46,7 @@ counted c =
     let k : l .loop .i < l .before .args .count = omega arith in
     rw (c .ahead .ensures)
     (le-trans (ahead-le _ _ _)
-    (small-bounds _ (all-at small _ (l .loop .i) (l .before .args .t1) _ k (omega (arith, long (l .before))) (l .before .pre .1 .1)) .0))
+    (small-bounds _ (all-at withinLimits _ (l .loop .i) (l .before .args .t1) _ k (omega (arith, long (l .before))) (l .before .pre .1 .1)) .0))
 
 add-sum : tie.Need-add-sum Inv-loop μ-loop
 add-sum c = omega (arith, counted c)

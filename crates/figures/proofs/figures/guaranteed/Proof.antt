@@ -13,8 +13,8 @@ of-period-requires c κs =
     let a = c .before .args in
     omega (arith, c .guarantee-period .ensures, guarantee-bound (a .interval))
 
-currency-cut-requires : tie.Need-currency-cut-requires
-currency-cut-requires c κs = search tests
+scaled-currency-haircut-requires : tie.Need-scaled-currency-haircut-requires
+scaled-currency-haircut-requires c κs = search tests
 
 recognised-requires : tie.Need-recognised-requires
 recognised-requires c κs = search tests
@@ -28,6 +28,6 @@ guaranteed-spec =
     (tie.spec
     guarantee-period-requires
     of-period-requires
-    currency-cut-requires
+    scaled-currency-haircut-requires
     recognised-requires
     returns)

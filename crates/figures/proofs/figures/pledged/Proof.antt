@@ -17,8 +17,8 @@ of-period-requires c κs =
 haircut-requires : tie.Need-haircut-requires
 haircut-requires c κs = tt
 
-collateral-cut-requires : tie.Need-collateral-cut-requires
-collateral-cut-requires c κs =
+combined-haircut-requires : tie.Need-combined-haircut-requires
+combined-haircut-requires c κs =
     let o = c .before in
     let a = o .before .before .args in
     (omega (arith, c .haircut .ensures, haircut-bound (a .goods) (a .step) (a .life)), o .of-period .ensures .1)
@@ -36,6 +36,6 @@ pledged-spec =
     holding-period-requires
     of-period-requires
     haircut-requires
-    collateral-cut-requires
+    combined-haircut-requires
     recognised-requires
     returns)

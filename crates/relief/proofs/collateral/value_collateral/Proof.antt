@@ -35,10 +35,10 @@ record Holds (t : Terms) (items : List Collateral) (count : ℕ) (reports : List
   small : total ≤ i * 1000000000000
 
 abbrev Inv-loop : tie.InvT-loop
-Inv-loop terms root items count reports₀ total₀ i₀ reports total i = Holds terms items count reports total i
+Inv-loop terms factor items count reports₀ total₀ i₀ reports total i = Holds terms items count reports total i
 
 abbrev μ-loop : tie.MeasureT-loop
-μ-loop terms root items count reports₀ total₀ i₀ reports total i = count - i
+μ-loop terms factor items count reports₀ total₀ i₀ reports total i = count - i
 
 long : (c : tie.Start Inv-loop μ-loop) → length (c .args .list .items) ≡ 16
 long c = search (unmapped, c .good)
@@ -55,8 +55,8 @@ mul-item c = omega arith
 array-copy-out-item : tie.Need-array-copy-out-item Inv-loop μ-loop
 array-copy-out-item c = omega arith
 
-value-item-requires : tie.Need-value-item-requires Inv-loop μ-loop
-value-item-requires c κs =
+collateral-outcome-requires : tie.Need-collateral-outcome-requires Inv-loop μ-loop
+collateral-outcome-requires c κs =
     let l = c .before .before in
     let s = l .before .before in
     let item = collateral-at (s .args .list) (s .pre .0) (l .loop .i) zeroCollateral (c .before .loop-test .taken) (omega (arith, long s)) in
@@ -77,7 +77,7 @@ worth c =
     let l = c .before .before .before .before in
     let s = l .before .before in
     let item = collateral-at (s .args .list) (s .pre .0) (l .loop .i) zeroCollateral (c .before .before .before .loop-test .taken) (omega (arith, long s)) in
-    rw (c .value .ensures, c .before .value-item .ensures) (le-trans (collateral-le (tableFor (s .args .terms)) (s .args .terms) _) (item .amount))
+    rw (c .value .ensures, c .before .collateral-outcome .ensures) (le-trans (collateral-le (tableFor (s .args .terms)) (s .args .terms) _) (item .amount))
 
 add-total : tie.Need-add-total Inv-loop μ-loop
 add-total c = omega (arith, worth c, c .before .before .before .before .loop .inv .small)
@@ -100,8 +100,8 @@ loop-again c =
     record {
       passed = omega arith;
       held = l .loop .inv .held;
-      reported = rw (l .loop .inv .reported, v .value-item .ensures) (fill-more (entry (s .args .terms)) zeroCollateral i items _ h (omega arith));
-      totalled = rw (c .value .ensures, v .value-item .ensures, l .loop .inv .totalled) (sym (sum-take (λ x. outcomeValue (collateralOutcome (tableFor (s .args .terms)) (s .args .terms) x)) items i zeroCollateral h));
+      reported = rw (l .loop .inv .reported, v .collateral-outcome .ensures) (fill-more (entry (s .args .terms)) zeroCollateral i items _ h (omega arith));
+      totalled = rw (c .value .ensures, v .collateral-outcome .ensures, l .loop .inv .totalled) (sym (sum-take (λ x. outcomeValue (collateralOutcome (tableFor (s .args .terms)) (s .args .terms) x)) items i zeroCollateral h));
       small = omega (arith, worth c, l .loop .inv .small);
     }
 
@@ -125,7 +125,7 @@ value-collateral-spec =
     loop-holds
     mul-item
     array-copy-out-item
-    value-item-requires
+    collateral-outcome-requires
     mul-reports
     array-set-from-reports
     value-requires

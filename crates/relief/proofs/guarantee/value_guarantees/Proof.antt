@@ -16,21 +16,21 @@ use Rattle.deal.proofs.Plain.{guarantee-count, guarantee-taken}
 use Rattle.relief.specs.declared.guarantee.GuaranteeReport.{GuaranteeReport}
 use Rattle.relief.specs.Recognition.{protectionOf}
 use Rattle.relief.specs.Report.{noGuarantee}
-use Rattle.relief.specs.Working.{uncovered, noProtection}
+use Rattle.relief.specs.Working.{withoutPortion, noProtection}
 use Rattle.relief.proofs.guarantee.value_guarantees.Statement.{statement}
 use Rattle.relief.proofs.guarantee.value_guarantees.Tie as tie
 
 record Holds (t : Terms) (items : List Guarantee) (count : ℕ) (reports : List GuaranteeReport) (protections : List Protection) (i : ℕ) : Type 0 where
   passed : i ≤ count
   held : count ≤ 16
-  reported : reports ≡ map (uncovered (tableFor t) t) (take i items) ++ drop i (replicate 16 noGuarantee)
+  reported : reports ≡ map (withoutPortion (tableFor t) t) (take i items) ++ drop i (replicate 16 noGuarantee)
   protected : protections ≡ map (protectionOf (tableFor t) t) (take i items) ++ drop i (replicate 16 noProtection)
 
 abbrev Inv-loop : tie.InvT-loop
-Inv-loop terms limit root items count reports₀ protections₀ i₀ reports protections i = Holds terms items count reports protections i
+Inv-loop terms counterparty-weight factor items count reports₀ protections₀ i₀ reports protections i = Holds terms items count reports protections i
 
 abbrev μ-loop : tie.MeasureT-loop
-μ-loop terms limit root items count reports₀ protections₀ i₀ reports protections i = count - i
+μ-loop terms counterparty-weight factor items count reports₀ protections₀ i₀ reports protections i = count - i
 
 long : (c : tie.Start Inv-loop μ-loop) → length (c .args .list .items) ≡ 16
 long c = search (unmapped, c .good)
@@ -46,8 +46,8 @@ mul-item c = omega arith
 array-copy-out-item : tie.Need-array-copy-out-item Inv-loop μ-loop
 array-copy-out-item c = omega arith
 
-value-item-requires : tie.Need-value-item-requires Inv-loop μ-loop
-value-item-requires c κs =
+guarantee-outcome-requires : tie.Need-guarantee-outcome-requires Inv-loop μ-loop
+guarantee-outcome-requires c κs =
     let l = c .before .before in
     let s = l .before .before in
     let item = guarantee-taken (s .args .list) (s .pre .0 .0) (l .loop .i) zeroGuarantee (c .before .loop-test .taken) (omega (arith, long s)) in
@@ -82,8 +82,8 @@ loop-again c =
     record {
       passed = omega arith;
       held = l .loop .inv .held;
-      reported = rw (l .loop .inv .reported, v .value-item .ensures .0) (fill-more (uncovered (tableFor (s .args .terms)) (s .args .terms)) zeroGuarantee i items _ h (omega arith));
-      protected = rw (l .loop .inv .protected, v .value-item .ensures .1) (fill-more (protectionOf (tableFor (s .args .terms)) (s .args .terms)) zeroGuarantee i items _ h (omega arith));
+      reported = rw (l .loop .inv .reported, v .guarantee-outcome .ensures .0) (fill-more (withoutPortion (tableFor (s .args .terms)) (s .args .terms)) zeroGuarantee i items _ h (omega arith));
+      protected = rw (l .loop .inv .protected, v .guarantee-outcome .ensures .1) (fill-more (protectionOf (tableFor (s .args .terms)) (s .args .terms)) zeroGuarantee i items _ h (omega arith));
     }
 
 returns : tie.Need-returns Inv-loop μ-loop
@@ -94,7 +94,7 @@ returns c =
     let count = s .args .list .count in
     let e : l .i ≡ count = omega arith in
     let n : length counted ≡ count = length-take-le count (s .args .list .items) (omega (arith, long s, l .inv .held)) in
-    let f = uncovered (tableFor (s .args .terms)) (s .args .terms) in
+    let f = withoutPortion (tableFor (s .args .terms)) (s .args .terms) in
     let g = protectionOf (tableFor (s .args .terms)) (s .args .terms) in
     (rw (l .inv .reported, e) (placed 16 count noGuarantee (map f counted) (length-map counted f ∙ n)), rw (l .inv .protected, e) (placed 16 count noProtection (map g counted) (length-map counted g ∙ n)))
 
@@ -107,7 +107,7 @@ value-guarantees-spec =
     loop-holds
     mul-item
     array-copy-out-item
-    value-item-requires
+    guarantee-outcome-requires
     mul-reports
     array-set-from-reports
     mul-protections

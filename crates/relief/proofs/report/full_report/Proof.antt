@@ -10,7 +10,7 @@ use Rattle.base.proofs.Arrays.{unmapped}
 use Rattle.base.proofs.Every.{both}
 use Rattle.base.proofs.Places.{taken}
 use Rattle.tables.specs.Table.{Table}
-use Rattle.valuation.specs.Exposure.{weighted}
+use Rattle.valuation.specs.Exposure.{riskWeightedAmount}
 use Rattle.cover.specs.Cover.{coverOf}
 use Rattle.deal.specs.Deals.{dealOf}
 use Rattle.deal.specs.Editions.{tableFor}
@@ -21,7 +21,7 @@ use Rattle.deal.specs.declared.answer.Answer.the-variants.{Accepted}
 use Rattle.deal.proofs.Deals.{accepted-allowed, allowed-parts}
 use Rattle.deal.proofs.Plain.{PlainTerms, plain-terms, guarantee-count}
 use Rattle.relief.specs.Recognition.{counterpartyWeightOf, protectionOf}
-use Rattle.relief.specs.Exposure.{raisedExposure, exposureAfter, piecesOf, weightedAmount}
+use Rattle.relief.specs.Exposure.{adjustedExposureOf, exposureAfter, piecesOf, riskWeightedAmountOf}
 use Rattle.relief.specs.Report.{fullReport}
 use Rattle.relief.specs.Working.{noProtection}
 use Rattle.relief.proofs.Amounts.{exposure-bound}
@@ -57,18 +57,18 @@ weight-of-requires : tie.Need-weight-of-requires
 weight-of-requires c κs = parts c .0
 
 value-collateral-requires : tie.Need-value-collateral-requires
-value-collateral-requires c κs = let s = c .before in (parts s .1 .0, (s .pre .1 .deal-period, s .pre .1 .deal-rooted))
+value-collateral-requires c κs = let s = c .before in (parts s .1 .0, (s .pre .1 .deal-period, s .pre .1 .deal-factor))
 
 value-guarantees-requires : tie.Need-value-guarantees-requires
 value-guarantees-requires c κs =
     let s = c .before .before in
-    ((parts s .1 .1, c .before .weight-of .ensures), (s .pre .1 .guarantee-period, s .pre .1 .guarantee-rooted))
+    ((parts s .1 .1, c .before .weight-of .ensures), (s .pre .1 .guarantee-period, s .pre .1 .guarantee-factor))
 
-lent-cut-requires : tie.Need-lent-cut-requires
-lent-cut-requires c κs = let r = c .before .before .before .pre .1 in (r .deal-period, r .deal-rooted)
+scaled-lent-haircut-requires : tie.Need-scaled-lent-haircut-requires
+scaled-lent-haircut-requires c κs = let r = c .before .before .before .pre .1 in (r .deal-period, r .deal-factor)
 
 exposure-after-requires : tie.Need-exposure-after-requires
-exposure-after-requires c κs = (parts (c .before .before .before .before) .0, c .lent-cut .ensures)
+exposure-after-requires c κs = (parts (c .before .before .before .before) .0, c .scaled-lent-haircut .ensures)
 
 -- exposure, weight and pieces are the definition's
 module _ (c : tie.After-exposure-after) where
@@ -82,7 +82,7 @@ module _ (c : tie.After-exposure-after) where
   unfolding exposureAfter
   exposure-is =
       let t = start .args .terms in
-      c .exposure-after .ensures ∙ ap (λ x. min (t .amount) (raisedExposure (table start) t - x)) (valued .before .value-collateral .ensures .1)
+      c .exposure-after .ensures ∙ ap (λ x. min (t .amount) (adjustedExposureOf (table start) t - x)) (valued .before .value-collateral .ensures .1)
 
   weight-is : valued .before .before .weight-of .result ≡ counterpartyWeightOf (table start) (start .args .terms)
   weight-is = valued .before .before .weight-of .ensures
@@ -119,14 +119,14 @@ cover-is c = let e = c .before .before in c .cover .ensures ∙ same-cover (weig
 with-portions-requires : tie.Need-with-portions-requires
 with-portions-requires c κs = count (start (c .before .before .before .before))
 
-weighted-requires : tie.Need-weighted-requires
-weighted-requires c κs =
+risk-weighted-amount-requires : tie.Need-risk-weighted-amount-requires
+risk-weighted-amount-requires c κs =
     let v = c .before .before .before .before in
     let s = start (v .before .before) in
     omega (arith, ap (λ x. x .«weighted_sum») (cover-is v), sum-low (view s) (plain s))
 
 returns : tie.Need-returns
-unfolding fullReport weightedAmount
+unfolding fullReport riskWeightedAmountOf
 returns c =
     let p = c .before .before in
     let v = p .before .before .before in
@@ -136,8 +136,8 @@ returns c =
     (exposure-is e)
     (valued e .before .value-collateral .ensures .0)
     (p .with-portions .ensures ∙ guarantees-assembled (table s) (view s) (s .args .guarantees .count) (counted s) _ _ (valued e .value-guarantees .ensures .0) (ap (λ x. x .portions) (cover-is v)))
-    (ap (λ x. x .rest) (cover-is v))
-    (c .weighted .ensures ∙ ap (λ x. weighted (x .«weighted_sum»)) (cover-is v))
+    (ap (λ x. x .uncovered) (cover-is v))
+    (c .risk-weighted-amount .ensures ∙ ap (λ x. riskWeightedAmount (x .«weighted_sum»)) (cover-is v))
 
 pub full-report-spec : {M : Type 1} → statement M
 full-report-spec =
@@ -146,9 +146,9 @@ full-report-spec =
     weight-of-requires
     value-collateral-requires
     value-guarantees-requires
-    lent-cut-requires
+    scaled-lent-haircut-requires
     exposure-after-requires
     cover-requires
     with-portions-requires
-    weighted-requires
+    risk-weighted-amount-requires
     returns)

@@ -5,7 +5,7 @@ use mathlib.Core.List.{[], map}
 use Rattle.base.proofs.Tests.{not-true, not-false, told-not-true, told-not-false}
 use Rattle.base.specs.FirstMet.{firstOr}
 use Rattle.base.proofs.FirstMet.{met-first, not-met}
-use Rattle.scaling.proofs.Below.{root-none}
+use Rattle.scaling.proofs.Below.{factor-none}
 use Rattle.deal.specs.Answers.{answerNumber}
 use Rattle.deal.specs.Deals.{accepted}
 use Rattle.deal.specs.declared.deal.Deal.{Deal}
@@ -43,7 +43,7 @@ is-accepted : (c : tie.Else1) → accepted (c .before .before .args .deal) ≡ t
 is-accepted c = told-not-true _ _ (c .before .accepted .ensures) (c .if1 .left)
 
 for-terms-requires : tie.Need-for-terms-requires
-for-terms-requires c κs = (allowed-parts _ (accepted-allowed _ (is-accepted (c .before .before .before))) .0, (root-none, root-none))
+for-terms-requires c κs = (allowed-parts _ (accepted-allowed _ (is-accepted (c .before .before .before))) .0, (factor-none, factor-none))
 
 full-report-requires : tie.Need-full-report-requires
 full-report-requires c κs = (is-accepted (c .before .before .before .before), c .for-terms .ensures)
