@@ -13,6 +13,12 @@ pub if-false : {A : Type 0} (t : Bool) (a b : A) → t ≡ false → (if t then 
 unfolding if_then_else_
 if-false t a b e = rw e
 
+-- a choice of what is put into a function
+pub through : {A B : Type 0} (f : A → B) (t : Bool) (a b : A) → (if t then f a else f b) ≡ f (if t then a else b)
+unfolding if_then_else_
+through f true a b = refl
+through f false a b = refl
+
 -- what holds of a where the test passes, and of b where it fails, holds of the choice
 pub either : {A : Type 0} (P : A → Type 0) (t : Bool) {a b : A} → (t ≡ true → P a) → (t ≡ false → P b) → P (if t then a else b)
 unfolding if_then_else_

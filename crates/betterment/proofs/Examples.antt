@@ -7,8 +7,8 @@ use native.Mathlib.Omega.{arith}
 use lib.Dec.{ltb}
 use lib.ListN.{replicate}
 use Rattle.base.specs.All.{allPass}
-use Rattle.deal.specs.Terms.{termsOf}
-use Rattle.deal.specs.Deals.{accepted, withoutProtection}
+use Rattle.deal.specs.Fields.{termsIn}
+use Rattle.deal.specs.Records.{accepted, withoutProtection}
 use Rattle.deal.specs.declared.terms.Terms.{Terms}
 use Rattle.deal.specs.declared.collateral.Collateral.{Collateral}
 use Rattle.deal.specs.declared.guarantee.Guarantee.{Guarantee}
@@ -22,7 +22,7 @@ use Rattle.betterment.proofs.Theorem.{betterments-never-raise}
 
 -- the first deal of 01, The book: a loan of 1,000,000, sovereign debt of 400,000 and a sovereign's guarantee of 200,000
 abbrev loan : Terms
-loan = termsOf 1000000 3 0 978 3 1 1800 1 0 0
+loan = termsIn (1000000 ∷ 3 ∷ 0 ∷ 978 ∷ 3 ∷ 1 ∷ 1800 ∷ 1 ∷ 0 ∷ 0 ∷ [])
 
 abbrev pledge : ℕ → ℕ → Collateral
 pledge goods step = record {
@@ -113,7 +113,7 @@ cases =
     ++ of-guarantee (BetterGuarantee.now-direct {g = guaranteeDirect backing 0} refl)
     ++ of-guarantee (BetterGuarantee.now-not-in-rating {g = guaranteeNotInRating backing 0} refl)
     -- sovereign debt lent under a repo
-    ++ of-terms (BetterTerms.smaller-lent-step {t = termsOf 1000000 3 0 978 1 1 1800 2 4 720} 1 (omega arith))
+    ++ of-terms (BetterTerms.smaller-lent-step {t = termsIn (1000000 ∷ 3 ∷ 0 ∷ 978 ∷ 1 ∷ 1 ∷ 1800 ∷ 2 ∷ 4 ∷ 720 ∷ [])} 1 (omega arith))
     ++ of-terms (BetterTerms.smaller-interval {t = termsInterval loan 250} 1 (omega arith))
     -- one more item, in front of another and behind it
     ++ record { old = deal loan (debt ∷ []) []; new = deal loan (pledge 2 3 ∷ debt ∷ []) []; better = Better.more-collateral OneMore.here }

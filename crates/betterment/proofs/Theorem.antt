@@ -6,7 +6,7 @@ use mathlib.Core.Logic.{_⊎_, inl, inr}
 use native.Mathlib.Omega.{arith}
 use native.Mathlib.Nat.{not-suc-le-zero}
 use Rattle.tables.specs.Table.{Table, TableLaws}
-use Rattle.deal.specs.Deals.{accepted, withoutProtection}
+use Rattle.deal.specs.Records.{accepted, withoutProtection}
 use Rattle.deal.specs.Editions.{tableFor}
 use Rattle.deal.proofs.Editions.{lawful}
 use Rattle.deal.proofs.Exact.{accepted-fits, fits-accepted}

@@ -8,7 +8,7 @@ use lib.Dec.{eqb}
 use Rattle.base.proofs.Choice.{either, never}
 use Rattle.base.proofs.FirstMet.{first-holds}
 use Rattle.deal.specs.Terms.{termsTests, termsRefusal}
-use Rattle.deal.specs.Deals.{recordAllowed}
+use Rattle.deal.specs.Records.{recordAllowed}
 use Rattle.deal.specs.declared.deal.Deal.{Deal}
 use Rattle.deal.specs.declared.terms.Terms.{Terms}
 use Rattle.deal.proofs.Deals.{accepted-allowed, allowed-accepted, new-accepted, collateral-kept-allowed, guarantee-kept-allowed}

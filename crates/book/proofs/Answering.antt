@@ -8,7 +8,8 @@ use borrow.Author.Tests.{eq-eqb}
 use lib.Dec.{eqb}
 use lib.ListN.{length, length-append}
 use Rattle.base.proofs.Choice.{either, if-true, if-false}
-use Rattle.deal.specs.Deals.{accepted, openedDeal}
+use Rattle.deal.specs.Records.{accepted}
+use Rattle.deal.specs.Opening.{openedDeal}
 use Rattle.deal.specs.Terms.{termsRefusal}
 use Rattle.deal.specs.declared.deal.Deal.{Deal}
 use Rattle.relief.specs.Report.{reportRefusal}

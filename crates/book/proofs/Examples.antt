@@ -12,8 +12,10 @@ use Rattle.text.specs.Decimal.{decimalFrom}
 use Rattle.text.specs.Text.{tab, startsWith, sameBytes, extendFirst, linesOf, firstLine}
 use Rattle.text.proofs.Bytes.{only}
 use Rattle.deal.specs.Fields.{collateralIn, guaranteeIn, termsIn}
-use Rattle.deal.specs.Deals.{openedDeal, addCollateralTests, addCollateralRefusal, withCollateral, addGuaranteeTests, addGuaranteeRefusal, withGuarantee}
-use Rattle.deal.specs.Items.{collateralListTests, guaranteeListTests}
+use Rattle.deal.specs.Opening.{openedDeal}
+use Rattle.deal.specs.Adding.{addCollateralTests, addCollateralRefusal, withCollateral, addGuaranteeTests, addGuaranteeRefusal, withGuarantee}
+use Rattle.deal.specs.Collateral.{collateralListTests}
+use Rattle.deal.specs.Guarantees.{guaranteeListTests}
 use Rattle.relief.specs.Report.{reportRefusal}
 use Rattle.relief.proofs.Computed.{computed}
 use Rattle.lines.specs.Numbers.{digitsOf, numberAllowed, numberRead, numberOf}

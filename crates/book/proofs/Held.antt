@@ -10,8 +10,10 @@ use lib.ListN.{length, drop}
 use Rattle.base.proofs.Choice.{if-true}
 use Rattle.text.specs.Text.{firstLine, linesOf}
 use Rattle.deal.specs.Terms.{termsRefusal}
-use Rattle.deal.specs.Items.{collateralListRefusal, collateralListWith, guaranteeListRefusal, guaranteeListWith}
-use Rattle.deal.specs.Deals.{recordAllowed, dealOf, emptyCollateral, emptyGuarantees, openedDeal, withoutProtection}
+use Rattle.deal.specs.Collateral.{collateralListRefusal, collateralListWith, emptyCollateral}
+use Rattle.deal.specs.Guarantees.{guaranteeListRefusal, guaranteeListWith, emptyGuarantees}
+use Rattle.deal.specs.Records.{recordAllowed, dealOf, withoutProtection}
+use Rattle.deal.specs.Opening.{openedDeal}
 use Rattle.deal.specs.Editions.{tableFor}
 use Rattle.deal.specs.Views.{viewOf}
 use Rattle.deal.specs.declared.terms.Terms.{Terms}

@@ -3,8 +3,10 @@ use Prim.Native.Nat.{ℕ, _+_}
 use mathlib.Core.List.{List, [], _∷_, _++_}
 use lib.Dec.{eqb}
 use Rattle.base.specs.Choice.{if_then_else_}
-use Rattle.deal.specs.Terms.{termsOf, termsRefusal}
-use Rattle.deal.specs.Deals.{openedDeal, addCollateralRefusal, withCollateral, addGuaranteeRefusal, withGuarantee}
+use Rattle.deal.specs.Fields.{zeroTerms}
+use Rattle.deal.specs.Terms.{termsRefusal}
+use Rattle.deal.specs.Opening.{openedDeal}
+use Rattle.deal.specs.Adding.{addCollateralRefusal, withCollateral, addGuaranteeRefusal, withGuarantee}
 use Rattle.deal.specs.declared.deal.Deal.{Deal}
 use Rattle.relief.specs.Report.{reportOf, reportRefusal}
 use Rattle.lines.specs.Lines.{lineOf}
@@ -25,7 +27,7 @@ openingRefusal Malformed = malformedLine
 
 -- a record of zeros, where a refusal gives no deal
 abbrev pub noDeal : Deal
-noDeal = openedDeal (termsOf 0 0 0 0 0 0 0 0 0 0)
+noDeal = openedDeal (zeroTerms)
 
 -- the deal it opens
 unfoldable pub openedBy : Line → Deal

@@ -9,7 +9,7 @@ use lib.Dec.{eqb}
 use lib.ListN.{length, take}
 use Rattle.base.specs.All.{allPass}
 use Rattle.text.specs.Text.{linesOf, ended}
-use Rattle.deal.specs.Deals.{accepted}
+use Rattle.deal.specs.Records.{accepted}
 use Rattle.deal.specs.declared.deal.Deal.{Deal}
 use Rattle.book.specs.Deals.{opensDeal, dealsFrom}
 use Rattle.book.specs.Answers.{refusedAt, figuresOf, answersFrom}

@@ -5,7 +5,7 @@ use mathlib.Core.Path.{_≡_}
 use mathlib.Core.List.{List, [], _∷_}
 use lib.ListN.{drop, length}
 use Rattle.text.specs.Text.{firstLine, linesOf}
-use Rattle.deal.specs.Terms.{termsOf}
+use Rattle.deal.specs.Fields.{zeroTerms}
 use Rattle.deal.specs.declared.terms.Terms.{Terms}
 use Rattle.lines.specs.declared.line.Line.{Line}
 use Rattle.lines.specs.declared.line.Line.the-variants.{DealLine, CollateralLine, GuaranteeLine, Malformed}
@@ -14,9 +14,9 @@ use Rattle.book.specs.Deals.{DealLines, opensDeal, ownLines, dealsFrom}
 -- the terms on the line that opens a deal, zeros where it is no line D
 unfoldable pub openingTerms : Line → Terms
 openingTerms (DealLine terms) = terms
-openingTerms (CollateralLine c) = termsOf 0 0 0 0 0 0 0 0 0 0
-openingTerms (GuaranteeLine g) = termsOf 0 0 0 0 0 0 0 0 0 0
-openingTerms Malformed = termsOf 0 0 0 0 0 0 0 0 0 0
+openingTerms (CollateralLine c) = zeroTerms
+openingTerms (GuaranteeLine g) = zeroTerms
+openingTerms Malformed = zeroTerms
 
 -- whether a text starts with a line that opens no deal
 unfoldable pub ownFirst : List ℕ → Bool

@@ -5,7 +5,7 @@ ghost use mathlib.Core.List.{[], _∷_};
 ghost use Prim.Native.Nat.{_+_, _≤_};
 ghost use lib.ListN.{drop, length};
 ghost use Rattle.text.specs.Text.{linesOf};
-ghost use Rattle.deal.specs.Deals.{openedDeal};
+ghost use Rattle.deal.specs.Opening.{openedDeal};
 ghost use Rattle.deal.specs.Terms.{termsRefusal};
 ghost use Rattle.relief.specs.Working.{BothTimeFactors, TimeFactorsOf};
 ghost use Rattle.book.specs.Answers.{dealAnswer, linesAnswer};

@@ -19,25 +19,25 @@ as-read [] = refl
 as-read (n ∷ ns) = ap (λ (l : List ℕ). n ∷ l) (as-read ns)
 
 pub terms-back : (t : Terms) → termsIn (termsFields t) ≡ t
-unfolding termsIn termsFields
+unfolding termsFields
 terms-back t = refl
 
 pub terms-forth : (ns : List ℕ) → length ns ≡ termsWidth → termsFields (termsIn ns) ≡ ns
-unfolding termsIn termsFields
+unfolding termsFields
 terms-forth ns e = rw e at (as-read ns)
 
 pub collateral-back : (c : Collateral) → collateralIn (collateralFields c) ≡ c
-unfolding collateralIn collateralFields
+unfolding collateralFields
 collateral-back c = refl
 
 pub collateral-forth : (ns : List ℕ) → length ns ≡ collateralWidth → collateralFields (collateralIn ns) ≡ ns
-unfolding collateralIn collateralFields
+unfolding collateralFields
 collateral-forth ns e = rw e at (as-read ns)
 
 pub guarantee-back : (g : Guarantee) → guaranteeIn (guaranteeFields g) ≡ g
-unfolding guaranteeIn guaranteeFields
+unfolding guaranteeFields
 guarantee-back g = refl
 
 pub guarantee-forth : (ns : List ℕ) → length ns ≡ guaranteeWidth → guaranteeFields (guaranteeIn ns) ≡ ns
-unfolding guaranteeIn guaranteeFields
+unfolding guaranteeFields
 guarantee-forth ns e = rw e at (as-read ns)

@@ -8,10 +8,13 @@ use Rattle.base.specs.FirstMet.{firstOr}
 use Rattle.base.specs.Range.{within}
 use Rattle.deal.specs.Parties.{partyStepAllowed}
 use Rattle.deal.specs.Assets.{assetStepAllowed, lifeAllowed}
-use Rattle.deal.specs.Terms.{termsOf, termsTests, termsRefusal}
-use Rattle.deal.specs.Items.{collateralTests, collateralListTests, collateralRefusal, guaranteeTests, guaranteeRefusal, collateralListAllowed, guaranteeListAllowed, guaranteeListTests}
-use Rattle.deal.specs.Fields.{termsIn, collateralIn, guaranteeIn}
-use Rattle.deal.specs.Deals.{zeroCollateral, zeroGuarantee, openedDeal, dealWith, recordAllowed, withoutProtection, addCollateralTests, addCollateralRefusal, addGuaranteeTests, addGuaranteeRefusal, withCollateral, withGuarantee}
+use Rattle.deal.specs.Fields.{termsIn, collateralIn, guaranteeIn, zeroCollateral, zeroGuarantee, zeroTerms}
+use Rattle.deal.specs.Terms.{termsTests, termsRefusal}
+use Rattle.deal.specs.Collateral.{collateralTests, collateralListTests, collateralRefusal, collateralListAllowed}
+use Rattle.deal.specs.Guarantees.{guaranteeTests, guaranteeRefusal, guaranteeListAllowed, guaranteeListTests}
+use Rattle.deal.specs.Opening.{openedDeal}
+use Rattle.deal.specs.Records.{dealWith, recordAllowed, withoutProtection}
+use Rattle.deal.specs.Adding.{addCollateralTests, addCollateralRefusal, addGuaranteeTests, addGuaranteeRefusal, withCollateral, withGuarantee}
 use Rattle.deal.specs.declared.collateral.Collateral.{Collateral}
 use Rattle.deal.specs.declared.guarantee.Guarantee.{Guarantee}
 use Rattle.deal.specs.declared.deal.Deal.{Deal}
@@ -19,21 +22,21 @@ use Rattle.deal.specs.declared.deal.Deal.{Deal}
 abbrev opened : List ℕ
 opened =
     -- the three deals of 01, The book; the second "500 2 7 .." is answered by 3
-    termsRefusal (termsOf 1000000 3 0 978 3 1 1800 1 0 0)
-    ∷ termsRefusal (termsOf 500 2 7 840 1 1 30 1 0 0)
-    ∷ termsRefusal (termsOf 900 4 0 978 3 1 90 1 0 0)
+    termsRefusal (termsIn (1000000 ∷ 3 ∷ 0 ∷ 978 ∷ 3 ∷ 1 ∷ 1800 ∷ 1 ∷ 0 ∷ 0 ∷ []))
+    ∷ termsRefusal (termsIn (500 ∷ 2 ∷ 7 ∷ 840 ∷ 1 ∷ 1 ∷ 30 ∷ 1 ∷ 0 ∷ 0 ∷ []))
+    ∷ termsRefusal (termsIn (900 ∷ 4 ∷ 0 ∷ 978 ∷ 3 ∷ 1 ∷ 90 ∷ 1 ∷ 0 ∷ 0 ∷ []))
     -- the limit of an amount, and one above it
-    ∷ termsRefusal (termsOf 1000000000000 3 0 978 3 1 1800 1 0 0)
-    ∷ termsRefusal (termsOf 1000000000001 3 0 978 3 1 1800 1 0 0)
+    ∷ termsRefusal (termsIn (1000000000000 ∷ 3 ∷ 0 ∷ 978 ∷ 3 ∷ 1 ∷ 1800 ∷ 1 ∷ 0 ∷ 0 ∷ []))
+    ∷ termsRefusal (termsIn (1000000000001 ∷ 3 ∷ 0 ∷ 978 ∷ 3 ∷ 1 ∷ 1800 ∷ 1 ∷ 0 ∷ 0 ∷ []))
     -- each refusal before those behind it
-    ∷ termsRefusal (termsOf 1000000000001 5 7 0 3 0 0 1 0 1)
-    ∷ termsRefusal (termsOf 500 5 7 0 3 0 0 1 0 1)
-    ∷ termsRefusal (termsOf 500 3 7 0 3 0 0 1 0 1)
-    ∷ termsRefusal (termsOf 500 3 6 0 3 0 0 1 0 1)
-    ∷ termsRefusal (termsOf 500 3 6 999 3 0 0 1 0 1)
+    ∷ termsRefusal (termsIn (1000000000001 ∷ 5 ∷ 7 ∷ 0 ∷ 3 ∷ 0 ∷ 0 ∷ 1 ∷ 0 ∷ 1 ∷ []))
+    ∷ termsRefusal (termsIn (500 ∷ 5 ∷ 7 ∷ 0 ∷ 3 ∷ 0 ∷ 0 ∷ 1 ∷ 0 ∷ 1 ∷ []))
+    ∷ termsRefusal (termsIn (500 ∷ 3 ∷ 7 ∷ 0 ∷ 3 ∷ 0 ∷ 0 ∷ 1 ∷ 0 ∷ 1 ∷ []))
+    ∷ termsRefusal (termsIn (500 ∷ 3 ∷ 6 ∷ 0 ∷ 3 ∷ 0 ∷ 0 ∷ 1 ∷ 0 ∷ 1 ∷ []))
+    ∷ termsRefusal (termsIn (500 ∷ 3 ∷ 6 ∷ 999 ∷ 3 ∷ 0 ∷ 0 ∷ 1 ∷ 0 ∷ 1 ∷ []))
     -- retail and cash have step 0
-    ∷ termsRefusal (termsOf 900 4 1 978 3 1 90 1 0 0)
-    ∷ termsRefusal (termsOf 900 4 0 978 3 1 90 1 1 0)
+    ∷ termsRefusal (termsIn (900 ∷ 4 ∷ 1 ∷ 978 ∷ 3 ∷ 1 ∷ 90 ∷ 1 ∷ 0 ∷ 0 ∷ []))
+    ∷ termsRefusal (termsIn (900 ∷ 4 ∷ 0 ∷ 978 ∷ 3 ∷ 1 ∷ 90 ∷ 1 ∷ 1 ∷ 0 ∷ []))
     ∷ []
 
 opened-edges : opened ≡ 0 ∷ 3 ∷ 0 ∷ 0 ∷ 1 ∷ 1 ∷ 2 ∷ 3 ∷ 4 ∷ 5 ∷ 3 ∷ 3 ∷ []
@@ -41,7 +44,7 @@ unfolding termsRefusal termsTests firstOr within partyStepAllowed assetStepAllow
 opened-edges = refl
 
 -- the record of zeros that stands beside a refusal: 0 is no class
-pub zero-refused : termsRefusal (termsOf 0 0 0 0 0 0 0 0 0 0) ≡ 2
+pub zero-refused : termsRefusal (zeroTerms) ≡ 2
 unfolding termsRefusal termsTests firstOr within partyStepAllowed assetStepAllowed lifeAllowed if_then_else_
 zero-refused = refl
 
@@ -93,9 +96,9 @@ added-edges = refl
 -- a deal at this step of its counterparty, with so many places of its list of collateral counted, each filled alike
 abbrev holding : ℕ → ℕ → Collateral → Deal
 holding step count c = record {
-  terms = termsOf 1000000 3 step 978 3 1 1800 1 0 0;
+  terms = termsIn (1000000 ∷ 3 ∷ step ∷ 978 ∷ 3 ∷ 1 ∷ 1800 ∷ 1 ∷ 0 ∷ 0 ∷ []);
   collateral = record { items = replicate 16 c; count = count };
-  guarantees = withoutProtection (termsOf 0 0 0 0 0 0 0 0 0 0) .guarantees;
+  guarantees = withoutProtection (zeroTerms) .guarantees;
 }
 
 abbrev whole : List ℕ
@@ -119,14 +122,14 @@ abbrev types : List ℕ
 types = 0 ∷ 1 ∷ 2 ∷ 3 ∷ 4 ∷ 5 ∷ 6 ∷ 7 ∷ 8 ∷ 9 ∷ 10 ∷ []
 
 abbrev lentAs : ℕ → ℕ → ℕ → ℕ
-lentAs step life goods = termsRefusal (termsOf 500 3 0 978 3 1 1800 goods step life)
+lentAs step life goods = termsRefusal (termsIn (500 ∷ 3 ∷ 0 ∷ 978 ∷ 3 ∷ 1 ∷ 1800 ∷ goods ∷ step ∷ life ∷ []))
 
 goods-edges : map (lentAs 0 0) types ∷ map (lentAs 0 360) types ∷ map (lentAs 1 360) types
     ∷ map (lentAs 1 36000) types ∷ map (lentAs 1 36001) types
-    ∷ map (λ k. termsRefusal (termsOf 500 3 0 978 k 1 1800 1 0 0)) (0 ∷ 1 ∷ 2 ∷ 3 ∷ 4 ∷ [])
-    ∷ map (λ r. termsRefusal (termsOf 500 3 0 978 3 1 r 1 0 0)) (0 ∷ 1 ∷ 36000 ∷ 36001 ∷ [])
-    ∷ map (λ i. termsRefusal (termsOf 500 3 0 978 3 i 1800 1 0 0)) (0 ∷ 1 ∷ 250 ∷ 251 ∷ [])
-    ∷ map (λ c. termsRefusal (termsOf 500 3 0 c 3 1 1800 1 0 0)) (0 ∷ 1 ∷ 999 ∷ 1000 ∷ []) ∷ []
+    ∷ map (λ k. termsRefusal (termsIn (500 ∷ 3 ∷ 0 ∷ 978 ∷ k ∷ 1 ∷ 1800 ∷ 1 ∷ 0 ∷ 0 ∷ []))) (0 ∷ 1 ∷ 2 ∷ 3 ∷ 4 ∷ [])
+    ∷ map (λ r. termsRefusal (termsIn (500 ∷ 3 ∷ 0 ∷ 978 ∷ 3 ∷ 1 ∷ r ∷ 1 ∷ 0 ∷ 0 ∷ []))) (0 ∷ 1 ∷ 36000 ∷ 36001 ∷ [])
+    ∷ map (λ i. termsRefusal (termsIn (500 ∷ 3 ∷ 0 ∷ 978 ∷ 3 ∷ i ∷ 1800 ∷ 1 ∷ 0 ∷ 0 ∷ []))) (0 ∷ 1 ∷ 250 ∷ 251 ∷ [])
+    ∷ map (λ c. termsRefusal (termsIn (500 ∷ 3 ∷ 0 ∷ c ∷ 3 ∷ 1 ∷ 1800 ∷ 1 ∷ 0 ∷ 0 ∷ []))) (0 ∷ 1 ∷ 999 ∷ 1000 ∷ []) ∷ []
     ≡ (2 ∷ 0 ∷ 5 ∷ 5 ∷ 5 ∷ 5 ∷ 5 ∷ 0 ∷ 0 ∷ 0 ∷ 2 ∷ [])
     ∷ (2 ∷ 5 ∷ 0 ∷ 0 ∷ 0 ∷ 0 ∷ 0 ∷ 5 ∷ 5 ∷ 5 ∷ 2 ∷ [])
     ∷ (2 ∷ 3 ∷ 0 ∷ 0 ∷ 0 ∷ 0 ∷ 0 ∷ 3 ∷ 3 ∷ 3 ∷ 2 ∷ [])
@@ -167,14 +170,14 @@ items-in-order :
     ∷ backing (5 ∷ 3 ∷ 6 ∷ 999 ∷ 36000 ∷ 36000 ∷ 1 ∷ 1 ∷ 1 ∷ [])
     ∷ []
     ≡ 1 ∷ 2 ∷ 3 ∷ 4 ∷ 5 ∷ 7 ∷ 8 ∷ 0 ∷ 5 ∷ 5 ∷ 1 ∷ 2 ∷ 3 ∷ 4 ∷ 5 ∷ 7 ∷ 8 ∷ 0 ∷ []
-unfolding collateralIn guaranteeIn collateralRefusal collateralTests guaranteeRefusal guaranteeTests firstOr within partyStepAllowed assetStepAllowed lifeAllowed if_then_else_
+unfolding collateralRefusal collateralTests guaranteeRefusal guaranteeTests firstOr within partyStepAllowed assetStepAllowed lifeAllowed if_then_else_
 items-in-order = refl
 
 -- fifteen, sixteen, seventeen guarantees
 abbrev guaranteed : ℕ → Guarantee → Deal
 guaranteed count g = record {
-  terms = termsOf 1000000 3 0 978 3 1 1800 1 0 0;
-  collateral = withoutProtection (termsOf 0 0 0 0 0 0 0 0 0 0) .collateral;
+  terms = termsIn (1000000 ∷ 3 ∷ 0 ∷ 978 ∷ 3 ∷ 1 ∷ 1800 ∷ 1 ∷ 0 ∷ 0 ∷ []);
+  collateral = withoutProtection (zeroTerms) .collateral;
   guarantees = record { items = replicate 16 g; count = count };
 }
 
@@ -190,12 +193,12 @@ whole-guarantees = refl
 
 -- zeros are zeros; beside a refusal nothing of the terms stays; two of each go behind each other
 zeros : (zeroCollateral ≡ collateralIn (replicate 11 0)) × ((zeroGuarantee ≡ guaranteeIn (replicate 9 0))
-    × (openedDeal (termsOf 500 2 7 840 1 1 30 1 0 0) ≡ dealWith (termsIn (replicate 10 0)) [] []))
-unfolding openedDeal collateralIn guaranteeIn termsIn termsRefusal termsTests firstOr within partyStepAllowed assetStepAllowed lifeAllowed if_then_else_
+    × (openedDeal (termsIn (500 ∷ 2 ∷ 7 ∷ 840 ∷ 1 ∷ 1 ∷ 30 ∷ 1 ∷ 0 ∷ 0 ∷ [])) ≡ dealWith (termsIn (replicate 10 0)) [] []))
+unfolding openedDeal termsRefusal termsTests firstOr within partyStepAllowed assetStepAllowed lifeAllowed if_then_else_
 zeros = (refl, (refl, refl))
 
 added-behind :
-    (let loan = termsOf 1000000 3 0 978 3 1 1800 1 0 0 in
+    (let loan = termsIn (1000000 ∷ 3 ∷ 0 ∷ 978 ∷ 3 ∷ 1 ∷ 1800 ∷ 1 ∷ 0 ∷ 0 ∷ []) in
     let c : ℕ → Collateral = λ n. pledge n 1 360 360 1 in
     let g : ℕ → Guarantee = λ n. given n 1 360 360 1 in
     withGuarantee (withGuarantee (withCollateral (withCollateral (openedDeal loan) (c 1)) (c 2)) (g 3)) (g 4) ≡ dealWith loan (c 1 ∷ c 2 ∷ []) (g 3 ∷ g 4 ∷ []))

@@ -1,17 +1,22 @@
 -- What the operations keep: an accepted opening is an accepted record, an accepted addition to one is one again, and a
 -- refused addition leaves an equal deal. Assumes nothing.
+use Prim.Native.Nat.{ℕ}
 use mathlib.Core.Path.{_≡_, refl}
-use mathlib.Core.Bool.{Bool, true, false, _&&_}
+use mathlib.Core.Bool.{true, false, _&&_}
+use mathlib.Core.List.{List}
 use lib.Dec.{eqb}
 use borrow.Author.Tests.{eq-eqb, eqb-true}
-use Rattle.base.specs.Choice.{if_then_else_}
-use Rattle.base.proofs.Choice.{either, if-true, if-false}
+use Rattle.base.specs.FirstMet.{Test, firstMet}
+use Rattle.base.proofs.Choice.{either, if-true, if-false, through}
 use Rattle.base.proofs.Every.{both}
-use Rattle.base.proofs.FirstMet.{none-exactly, not-met}
+use Rattle.base.proofs.FirstMet.{distinct, none-exactly, not-met}
 use Rattle.base.proofs.Tests.{and-true, not-false, told-not-true}
 use Rattle.deal.specs.Terms.{termsRefusal}
-use Rattle.deal.specs.Items.{collateralTests, collateralRefusal, collateralListAllowed, collateralListTests, collateralListRefusal, collateralListWith, guaranteeTests, guaranteeRefusal, guaranteeListAllowed, guaranteeListTests, guaranteeListRefusal, guaranteeListWith, appendCollateral, appendGuarantee}
-use Rattle.deal.specs.Deals.{accepted, recordAllowed, openedDeal, withoutProtection, addCollateralTests, addCollateralRefusal, withCollateral, addGuaranteeTests, addGuaranteeRefusal, withGuarantee}
+use Rattle.deal.specs.Collateral.{collateralTests, collateralRefusal, collateralListAllowed, collateralListTests, collateralListRefusal, collateralListWith, appendCollateral}
+use Rattle.deal.specs.Guarantees.{guaranteeTests, guaranteeRefusal, guaranteeListAllowed, guaranteeListTests, guaranteeListRefusal, guaranteeListWith, appendGuarantee}
+use Rattle.deal.specs.Records.{accepted, dealOf, recordAllowed, withoutProtection}
+use Rattle.deal.specs.Opening.{openedDeal}
+use Rattle.deal.specs.Adding.{recordTests, addCollateralTests, addCollateralRefusal, withCollateral, addGuaranteeTests, addGuaranteeRefusal, withGuarantee}
 use Rattle.deal.specs.declared.terms.Terms.{Terms}
 use Rattle.deal.specs.declared.collateral.Collateral.{Collateral}
 use Rattle.deal.specs.declared.collateral.CollateralList.{CollateralList}
@@ -52,6 +57,15 @@ pub refused-not-accepted : (t : Terms) → eqb (termsRefusal t) 0 ≡ false → 
 unfolding accepted recordAllowed openedDeal
 refused-not-accepted t e = rw (if-false _ _ _ e, zero-refused) refl
 
+-- Adding
+
+module _ (d : Deal) (tests : List (Test ℕ)) where
+  pub past-40 : recordAllowed d ≡ true → firstMet (recordTests d tests) ≡ firstMet tests
+  past-40 h = not-met 40 _ _ (not-false _ h)
+
+  not-40 : distinct (recordTests d tests) ≡ true → firstMet (recordTests d tests) ≡ 0 → recordAllowed d ≡ true
+  not-40 n e = told-not-true (recordAllowed d) (recordAllowed d) refl (none-exactly (recordTests d tests) n e .0)
+
 -- Adding collateral
 
 module _ (l : CollateralList) (c : Collateral) where
@@ -76,16 +90,11 @@ module _ (d : Deal) (c : Collateral) where
   -- a record that adding takes: its list decides
   pub collateral-by-list : recordAllowed d ≡ true → addCollateralRefusal d c ≡ collateralListRefusal (d .collateral) c
   unfolding addCollateralRefusal addCollateralTests collateralListRefusal
-  collateral-by-list h = not-met 40 _ _ (not-false _ h)
+  collateral-by-list h = past-40 d _ h
 
-  pub collateral-with : recordAllowed d ≡ true → withCollateral d c ≡ record { terms = d .terms; collateral = collateralListWith (d .collateral) c; guarantees = d .guarantees }
-  unfolding withCollateral collateralListWith if_then_else_
-  collateral-with h = rw (collateral-by-list h) (go (eqb (collateralListRefusal (d .collateral) c) 0))
-    where
-      go : (b : Bool) → (if b then record { terms = d .terms; collateral = appendCollateral (d .collateral) c; guarantees = d .guarantees } else d)
-          ≡ record { terms = d .terms; collateral = if b then appendCollateral (d .collateral) c else d .collateral; guarantees = d .guarantees }
-      go true = refl
-      go false = refl
+  pub collateral-with : recordAllowed d ≡ true → withCollateral d c ≡ dealOf (d .terms) (collateralListWith (d .collateral) c) (d .guarantees)
+  unfolding withCollateral collateralListWith
+  collateral-with h = rw (collateral-by-list h) (through (λ l. dealOf (d .terms) l (d .guarantees)) _ _ _)
 
   pub collateral-kept-allowed : recordAllowed d ≡ true → recordAllowed (withCollateral d c) ≡ true
   unfolding recordAllowed
@@ -96,7 +105,7 @@ module _ (d : Deal) (c : Collateral) where
   -- what an addition that is not refused tells
   pub collateral-added-allowed : addCollateralRefusal d c ≡ 0 → recordAllowed d ≡ true
   unfolding addCollateralRefusal addCollateralTests collateralListTests collateralTests
-  collateral-added-allowed e = told-not-true (recordAllowed d) (recordAllowed d) refl (none-exactly (addCollateralTests d c) refl e .0)
+  collateral-added-allowed e = not-40 d _ refl e
 
   pub collateral-added-accepted : addCollateralRefusal d c ≡ 0 → accepted (withCollateral d c) ≡ true
   collateral-added-accepted e = allowed-accepted _ (collateral-kept-allowed (collateral-added-allowed e))
@@ -125,16 +134,11 @@ module _ (d : Deal) (g : Guarantee) where
   -- a record that adding takes: its list decides
   pub guarantee-by-list : recordAllowed d ≡ true → addGuaranteeRefusal d g ≡ guaranteeListRefusal (d .guarantees) g
   unfolding addGuaranteeRefusal addGuaranteeTests guaranteeListRefusal
-  guarantee-by-list h = not-met 40 _ _ (not-false _ h)
+  guarantee-by-list h = past-40 d _ h
 
-  pub guarantee-with : recordAllowed d ≡ true → withGuarantee d g ≡ record { terms = d .terms; collateral = d .collateral; guarantees = guaranteeListWith (d .guarantees) g }
-  unfolding withGuarantee guaranteeListWith if_then_else_
-  guarantee-with h = rw (guarantee-by-list h) (go (eqb (guaranteeListRefusal (d .guarantees) g) 0))
-    where
-      go : (b : Bool) → (if b then record { terms = d .terms; collateral = d .collateral; guarantees = appendGuarantee (d .guarantees) g } else d)
-          ≡ record { terms = d .terms; collateral = d .collateral; guarantees = if b then appendGuarantee (d .guarantees) g else d .guarantees }
-      go true = refl
-      go false = refl
+  pub guarantee-with : recordAllowed d ≡ true → withGuarantee d g ≡ dealOf (d .terms) (d .collateral) (guaranteeListWith (d .guarantees) g)
+  unfolding withGuarantee guaranteeListWith
+  guarantee-with h = rw (guarantee-by-list h) (through (λ l. dealOf (d .terms) (d .collateral) l) _ _ _)
 
   pub guarantee-kept-allowed : recordAllowed d ≡ true → recordAllowed (withGuarantee d g) ≡ true
   unfolding recordAllowed
@@ -145,7 +149,7 @@ module _ (d : Deal) (g : Guarantee) where
   -- what an addition that is not refused tells
   pub guarantee-added-allowed : addGuaranteeRefusal d g ≡ 0 → recordAllowed d ≡ true
   unfolding addGuaranteeRefusal addGuaranteeTests guaranteeListTests guaranteeTests
-  guarantee-added-allowed e = told-not-true (recordAllowed d) (recordAllowed d) refl (none-exactly (addGuaranteeTests d g) refl e .0)
+  guarantee-added-allowed e = not-40 d _ refl e
 
   pub guarantee-added-accepted : addGuaranteeRefusal d g ≡ 0 → accepted (withGuarantee d g) ≡ true
   guarantee-added-accepted e = allowed-accepted _ (guarantee-kept-allowed (guarantee-added-allowed e))

@@ -14,8 +14,11 @@ use Rattle.deal.specs.Ranges.{amountAllowed}
 use Rattle.deal.specs.Parties.{counterpartyKnown, partyStepAllowed}
 use Rattle.deal.specs.Assets.{goodsKnown, assetStepAllowed}
 use Rattle.deal.specs.Terms.{kindKnown, termsTests, termsRefusal}
-use Rattle.deal.specs.Items.{collateralTests, collateralListTests, collateralRefusal, guaranteeTests, guaranteeListTests, guaranteeRefusal, collateralListAllowed, guaranteeListAllowed}
-use Rattle.deal.specs.Deals.{accepted, recordAllowed, zeroCollateral, zeroGuarantee, addCollateralTests, addCollateralRefusal, addGuaranteeTests, addGuaranteeRefusal}
+use Rattle.deal.specs.Collateral.{collateralTests, collateralListTests, collateralRefusal, collateralListAllowed}
+use Rattle.deal.specs.Guarantees.{guaranteeTests, guaranteeListTests, guaranteeRefusal, guaranteeListAllowed}
+use Rattle.deal.specs.Records.{accepted, recordAllowed}
+use Rattle.deal.specs.Fields.{zeroCollateral, zeroGuarantee}
+use Rattle.deal.specs.Adding.{addCollateralTests, addCollateralRefusal, addGuaranteeTests, addGuaranteeRefusal}
 use Rattle.deal.specs.declared.terms.Terms.{Terms}
 use Rattle.deal.specs.declared.collateral.Collateral.{Collateral}
 use Rattle.deal.specs.declared.guarantee.Guarantee.{Guarantee}

@@ -6,4 +6,5 @@ pub mod Exact
 pub mod BothWays
 pub mod Lists
 pub mod Plain
+pub mod SameChecks
 pub mod Views

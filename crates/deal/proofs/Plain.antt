@@ -5,9 +5,8 @@ use mathlib.Core.Bool.{Bool, true, false, not, _&&_}
 use native.Mathlib.Omega.{arith}
 use lib.Dec.{leb, eqb}
 use lib.ListN.{length, getD}
-use borrow.Author.Tests.{leb-true, ltb-false, eqb-true}
+use borrow.Author.Tests.{leb-true, eqb-true}
 use Rattle.base.specs.Choice.{if_then_else_}
-use Rattle.base.proofs.All.{all-at}
 use Rattle.base.proofs.Every.{both}
 use Rattle.base.proofs.FirstMet.{none-exactly}
 use Rattle.base.proofs.Range.{bounds}
@@ -16,7 +15,9 @@ use Rattle.deal.specs.Ranges.{daysAllowed, intervalAllowed, conditionAll
 use Rattle.deal.specs.Parties.{counterpartyKnown, partyStepAllowed}
 use Rattle.deal.specs.Assets.{isDebt, assetStepAllowed}
 use Rattle.deal.specs.Terms.{kindKnown, termsTests, termsRefusal}
-use Rattle.deal.specs.Items.{collateralTests, collateralRefusal, guaranteeTests, guaranteeRefusal, collateralListAllowed, guaranteeListAllowed}
+use Rattle.deal.specs.Collateral.{collateralTests, collateralRefusal, collateralListAllowed}
+use Rattle.deal.specs.Guarantees.{guaranteeTests, guaranteeRefusal, guaranteeListAllowed}
+use Rattle.deal.proofs.Lists.{count-fits, taken-at}
 use Rattle.deal.specs.declared.asset.Asset.{Asset}
 use Rattle.deal.specs.declared.party.Party.{Party}
 use Rattle.deal.specs.declared.terms.Terms.{Terms}
@@ -124,7 +125,7 @@ plain-collateral c e =
       currency = bounds 1 999 _ (held _ (n .1 .1 .1 .0));
       residual = bounds 1 36000 _ (days .0);
       original = bounds 1 36000 _ (days .1);
-      terms = ltb-false _ _ (n .1 .1 .1 .1 .1 .0);
+      terms = leb-true _ _ (held _ (n .1 .1 .1 .1 .1 .0));
       lawful = leb-true _ 1 (two .0);
       unrelated = leb-true _ 1 (two .1);
       «not_in_rating» = leb-true _ 1 (three .1);
@@ -145,7 +146,7 @@ plain-guarantee g e =
       currency = bounds 1 999 _ (held _ (n .1 .1 .1 .0));
       residual = bounds 1 36000 _ (days .0);
       original = bounds 1 36000 _ (days .1);
-      terms = ltb-false _ _ (n .1 .1 .1 .1 .1 .0);
+      terms = leb-true _ _ (held _ (n .1 .1 .1 .1 .1 .0));
       lawful = leb-true _ 1 (two .0);
       direct = leb-true _ 1 (two .1);
       «not_in_rating» = leb-true _ 1 (three .1);
@@ -155,20 +156,17 @@ plain-guarantee g e =
 module _ (l : CollateralList) (e : collateralListAllowed l ≡ true) where
   pub collateral-count : l .count ≤ 16
   unfolding collateralListAllowed
-  collateral-count = leb-true _ 16 (both (leb (l .count) 16) _ e .0)
-
-  pub collateral-taken : (i : ℕ) (d : Collateral) → i < l .count → i < length (l .items) → collateralRefusal (getD (l .items) i d) ≡ 0
-  unfolding collateralListAllowed
-  collateral-taken i d h k = eqb-true _ 0 (all-at (λ x. eqb (collateralRefusal x) 0) (l .count) i (l .items) d h k (both (leb (l .count) 16) _ e .1))
+  collateral-count = count-fits collateralRefusal (l .items) (l .count) e
 
   pub collateral-at : (i : ℕ) (d : Collateral) → i < l .count → i < length (l .items) → PlainCollateral (getD (l .items) i d)
-  collateral-at i d h k = plain-collateral _ (collateral-taken i d h k)
+  unfolding collateralListAllowed
+  collateral-at i d h k = plain-collateral _ (taken-at collateralRefusal (l .items) (l .count) e i d h k)
 
 module _ (l : GuaranteeList) (e : guaranteeListAllowed l ≡ true) where
   pub guarantee-count : l .count ≤ 16
   unfolding guaranteeListAllowed
-  guarantee-count = leb-true _ 16 (both (leb (l .count) 16) _ e .0)
+  guarantee-count = count-fits guaranteeRefusal (l .items) (l .count) e
 
   pub guarantee-taken : (i : ℕ) (d : Guarantee) → i < l .count → i < length (l .items) → guaranteeRefusal (getD (l .items) i d) ≡ 0
   unfolding guaranteeListAllowed
-  guarantee-taken i d h k = eqb-true _ 0 (all-at (λ x. eqb (guaranteeRefusal x) 0) (l .count) i (l .items) d h k (both (leb (l .count) 16) _ e .1))
+  guarantee-taken i d h k = taken-at guaranteeRefusal (l .items) (l .count) e i d h k

@@ -12,8 +12,11 @@ use Rattle.base.proofs.All.{all-at, all-from}
 use Rattle.base.proofs.Every.{both}
 use Rattle.base.proofs.Tests.{and-true}
 use Rattle.deal.specs.Terms.{termsRefusal}
-use Rattle.deal.specs.Items.{collateralRefusal, guaranteeRefusal, listLimit}
-use Rattle.deal.specs.Deals.{accepted, zeroCollateral, zeroGuarantee}
+use Rattle.deal.specs.Collateral.{collateralRefusal}
+use Rattle.deal.specs.Guarantees.{guaranteeRefusal}
+use Rattle.deal.specs.Lists.{listLimit}
+use Rattle.deal.specs.Records.{accepted}
+use Rattle.deal.specs.Fields.{zeroCollateral, zeroGuarantee}
 use Rattle.deal.proofs.Exact.{accepted-fits, fits-accepted}
 use Rattle.deal.specs.declared.collateral.Collateral.{Collateral}
 use Rattle.deal.specs.declared.guarantee.Guarantee.{Guarantee}

@@ -3,7 +3,6 @@
 use Prim.Native.Nat.{ℕ}
 use mathlib.Core.List.{List, [], _∷_}
 use lib.ListN.{getD}
-use Rattle.deal.specs.Terms.{termsOf}
 use Rattle.deal.specs.declared.terms.Terms.{Terms}
 use Rattle.deal.specs.declared.collateral.Collateral.{Collateral}
 use Rattle.deal.specs.declared.guarantee.Guarantee.{Guarantee}
@@ -20,10 +19,18 @@ guaranteeWidth = 9
 
 -- "Deal: amount; counterparty class ..; step; currency; kind ..; revaluation interval ..; residual term; type, step and issue life of
 -- what is lent"
-unfoldable pub termsIn : List ℕ → Terms
+abbrev pub termsIn : List ℕ → Terms
 termsIn fields =
     let field : ℕ → ℕ = λ k. getD fields k 0 in
-    termsOf (field 0) (field 1) (field 2) (field 3) (field 4) (field 5) (field 6) (field 7) (field 8) (field 9)
+    record {
+      amount = field 0;
+      counterparty = record { class = field 1; step = field 2 };
+      currency = field 3;
+      kind = field 4;
+      interval = field 5;
+      residual = field 6;
+      lent = record { goods = field 7; step = field 8; life = field 9 };
+    }
 
 unfoldable pub termsFields : Terms → List ℕ
 termsFields t =
@@ -41,7 +48,7 @@ termsFields t =
 
 -- "Collateral: amount; type; step; issue life; currency; residual term of the pledge; its original term; conditions: lawful, unrelated to
 -- the counterparty, not already in the rating used, listed senior bank paper"
-unfoldable pub collateralIn : List ℕ → Collateral
+abbrev pub collateralIn : List ℕ → Collateral
 collateralIn fields =
     let field : ℕ → ℕ = λ k. getD fields k 0 in
     record {
@@ -73,7 +80,7 @@ collateralFields c =
 
 -- "Guarantee: amount; provider class ..; step; currency; residual and original term; conditions: lawful, direct .., not already in the
 -- rating used"
-unfoldable pub guaranteeIn : List ℕ → Guarantee
+abbrev pub guaranteeIn : List ℕ → Guarantee
 guaranteeIn fields =
     let field : ℕ → ℕ = λ k. getD fields k 0 in
     record {
@@ -99,3 +106,13 @@ guaranteeFields g =
     ∷ g .direct
     ∷ g .«not_in_rating»
     ∷ []
+
+-- no number is sent: zeros in every field
+abbrev pub zeroTerms : Terms
+zeroTerms = termsIn []
+
+abbrev pub zeroCollateral : Collateral
+zeroCollateral = collateralIn []
+
+abbrev pub zeroGuarantee : Guarantee
+zeroGuarantee = guaranteeIn []

@@ -1,10 +1,15 @@
+pub mod Adding
 pub mod Answers
 pub mod Assets
-pub mod Deals
+pub mod Checks
+pub mod Collateral
 pub mod Editions
 pub mod Fields
-pub mod Items
+pub mod Guarantees
+pub mod Lists
+pub mod Opening
 pub mod Parties
 pub mod Ranges
+pub mod Records
 pub mod Terms
 pub mod Views

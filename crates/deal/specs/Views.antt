@@ -6,8 +6,10 @@ use lib.Dec.{leb, eqb}
 use lib.ListN.{length}
 use Rattle.base.specs.All.{allPass}
 use Rattle.deal.specs.Terms.{termsRefusal}
-use Rattle.deal.specs.Items.{collateralRefusal, guaranteeRefusal, listLimit, countedCollateral, countedGuarantees}
-use Rattle.deal.specs.Deals.{dealWith}
+use Rattle.deal.specs.Collateral.{collateralRefusal, countedCollateral}
+use Rattle.deal.specs.Guarantees.{guaranteeRefusal, countedGuarantees}
+use Rattle.deal.specs.Lists.{listLimit}
+use Rattle.deal.specs.Records.{dealWith}
 use Rattle.deal.specs.declared.terms.Terms.{Terms}
 use Rattle.deal.specs.declared.collateral.Collateral.{Collateral}
 use Rattle.deal.specs.declared.guarantee.Guarantee.{Guarantee}

@@ -2,13 +2,14 @@
 ghost use mathlib.Core.Bool.{_&&_};
 ghost use mathlib.Core.Path.{_≡_};
 ghost use Rattle.deal.specs.Answers.{answerNumber};
-ghost use Rattle.deal.specs.Deals.{emptyCollateral};
+ghost use Rattle.deal.specs.Collateral.{emptyCollateral, collateralListAllowed, collateralListRefusal, collateralListWith, collateralRefusal};
 ghost use Rattle.deal.specs.Assets.{lifeAllowed};
 ghost use Rattle.deal.specs.Ranges.{conditionAllowed, daysAllowed};
-ghost use Rattle.deal.specs.Items.{collateralListAllowed, collateralListRefusal, collateralListWith, collateralRefusal};
 use crate::answer::Answer;
 use crate::asset::Asset;
+use crate::checks::FieldChecks;
 use crate::deal::Deal;
+use crate::ranges::amount_allowed;
 use crate::ranges::condition_allowed;
 use crate::ranges::currency_allowed;
 use crate::ranges::days_allowed;
@@ -78,28 +79,16 @@ impl Collateral {
         ensures { λ r. ⌜ answerNumber r ≡ collateralRefusal self ⌝ }
     {
         let asset = self.asset;
-        if self.amount > Deal::AMOUNT_LIMIT {
-            return Answer::AmountAboveLimit;
-        }
-        if !asset.goods_known() {
-            return Answer::UnknownCode;
-        }
-        if !asset.step_allowed() {
-            return Answer::WrongStep;
-        }
-        if !currency_allowed(self.currency) {
-            return Answer::WrongCurrency;
-        }
-        if !self.days_in_range() {
-            return Answer::OutsideRange;
-        }
-        if self.residual > self.original {
-            return Answer::ResidualAboveOriginal;
-        }
-        if !self.conditions_allowed() {
-            return Answer::WrongCondition;
-        }
-        Answer::Accepted
+        let checks = FieldChecks {
+            amount: amount_allowed(self.amount),
+            codes: asset.goods_known(),
+            steps: asset.step_allowed(),
+            currency: currency_allowed(self.currency),
+            ranges: self.days_in_range(),
+            terms: self.residual <= self.original,
+            conditions: self.conditions_allowed(),
+        };
+        checks.answer()
     }
 }
 

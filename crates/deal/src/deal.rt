@@ -1,15 +1,15 @@
 // A deal's record, how one is opened, and how collateral and guarantees are added to it.
 ghost use mathlib.Core.Path.{_≡_};
 ghost use Rattle.deal.specs.Answers.{answerNumber};
-ghost use Rattle.deal.specs.Terms.{termsOf, termsRefusal};
-ghost use Rattle.deal.specs.Deals.{accepted as acceptedOf, recordAllowed, openedDeal, withoutProtection, addCollateralRefusal, withCollateral, addGuaranteeRefusal, withGuarantee};
+ghost use Rattle.deal.specs.Terms.{termsRefusal};
+ghost use Rattle.deal.specs.Records.{accepted as acceptedOf, recordAllowed, withoutProtection};
+ghost use Rattle.deal.specs.Opening.{openedDeal};
+ghost use Rattle.deal.specs.Adding.{addCollateralRefusal, withCollateral, addGuaranteeRefusal, withGuarantee};
 use crate::answer::Answer;
-use crate::asset::Asset;
 use crate::collateral::Collateral;
 use crate::collateral::CollateralList;
 use crate::guarantee::Guarantee;
 use crate::guarantee::GuaranteeList;
-use crate::party::Party;
 use crate::terms::Terms;
 
 pub struct Deal {
@@ -43,34 +43,10 @@ impl Deal {
 
     pub const GUARANTEE_LIMIT: usize = 16;
 
-    // A new deal from a sender's numbers; a record of zeros beside a refusal.
-    pub fn open(
-        amount: u64,
-        class: u64,
-        step: u64,
-        currency: u64,
-        kind: u64,
-        interval: u64,
-        residual: u64,
-        lent_goods: u64,
-        lent_step: u64,
-        lent_life: u64,
-    ) -> DealReply
-        ensures { λ r. ⌜ (let t = termsOf amount class step currency kind interval residual «lent_goods» «lent_step» «lent_life» in (answerNumber (r .answer) ≡ termsRefusal t) × (r .deal ≡ openedDeal t)) ⌝ }
+    // A new deal on these terms; a record of zeros beside a refusal.
+    pub fn open(terms: Terms) -> DealReply
+        ensures { λ r. ⌜ (answerNumber (r .answer) ≡ termsRefusal terms) × (r .deal ≡ openedDeal terms) ⌝ }
     {
-        let terms = Terms {
-            amount,
-            counterparty: Party { class, step },
-            currency,
-            kind,
-            interval,
-            residual,
-            lent: Asset {
-                goods: lent_goods,
-                step: lent_step,
-                life: lent_life,
-            },
-        };
         let answer = terms.check();
         if !answer.is_accepted() {
             let deal = without_protection(Terms::ZERO);

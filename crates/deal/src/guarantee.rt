@@ -2,12 +2,13 @@
 ghost use mathlib.Core.Bool.{_&&_};
 ghost use mathlib.Core.Path.{_≡_};
 ghost use Rattle.deal.specs.Answers.{answerNumber};
-ghost use Rattle.deal.specs.Deals.{emptyGuarantees};
+ghost use Rattle.deal.specs.Guarantees.{emptyGuarantees, guaranteeListAllowed, guaranteeListRefusal, guaranteeListWith, guaranteeRefusal};
 ghost use Rattle.deal.specs.Ranges.{conditionAllowed, daysAllowed};
-ghost use Rattle.deal.specs.Items.{guaranteeListAllowed, guaranteeListRefusal, guaranteeListWith, guaranteeRefusal};
 use crate::answer::Answer;
+use crate::checks::FieldChecks;
 use crate::deal::Deal;
 use crate::party::Party;
+use crate::ranges::amount_allowed;
 use crate::ranges::condition_allowed;
 use crate::ranges::currency_allowed;
 use crate::ranges::days_allowed;
@@ -68,28 +69,16 @@ impl Guarantee {
         ensures { λ r. ⌜ answerNumber r ≡ guaranteeRefusal self ⌝ }
     {
         let provider = self.provider;
-        if self.amount > Deal::AMOUNT_LIMIT {
-            return Answer::AmountAboveLimit;
-        }
-        if !provider.provider_known() {
-            return Answer::UnknownCode;
-        }
-        if !provider.step_allowed() {
-            return Answer::WrongStep;
-        }
-        if !currency_allowed(self.currency) {
-            return Answer::WrongCurrency;
-        }
-        if !self.days_in_range() {
-            return Answer::OutsideRange;
-        }
-        if self.residual > self.original {
-            return Answer::ResidualAboveOriginal;
-        }
-        if !self.conditions_allowed() {
-            return Answer::WrongCondition;
-        }
-        Answer::Accepted
+        let checks = FieldChecks {
+            amount: amount_allowed(self.amount),
+            codes: provider.provider_known(),
+            steps: provider.step_allowed(),
+            currency: currency_allowed(self.currency),
+            ranges: self.days_in_range(),
+            terms: self.residual <= self.original,
+            conditions: self.conditions_allowed(),
+        };
+        checks.answer()
     }
 }
 

@@ -1,6 +1,7 @@
 // The ranges of the fields that deals and items share.
 ghost use mathlib.Core.Path.{_≡_};
-ghost use Rattle.deal.specs.Ranges.{currencyAllowed, daysAllowed, intervalAllowed, stepAllowed, conditionAllowed};
+ghost use Rattle.deal.specs.Ranges.{amountAllowed, currencyAllowed, daysAllowed, intervalAllowed, stepAllowed, conditionAllowed};
+use crate::deal::Deal;
 use base::within;
 
 const LAST_CURRENCY: u64 = 999;
@@ -10,6 +11,13 @@ const LONGEST: u64 = 36_000;
 const LONGEST_INTERVAL: u64 = 250;
 
 const LAST_STEP: u64 = 6;
+
+// Of a deal or of an item.
+pub fn amount_allowed(amount: u64) -> bool
+    ensures { λ r. ⌜ r ≡ amountAllowed amount ⌝ }
+{
+    amount <= Deal::AMOUNT_LIMIT
+}
 
 // An ISO 4217 number.
 pub fn currency_allowed(currency: u64) -> bool

@@ -8,8 +8,9 @@ ghost use Rattle.deal.specs.Ranges.{daysAllowed, intervalAllowed};
 ghost use Rattle.deal.specs.Terms.{kindKnown, termsRefusal};
 use crate::answer::Answer;
 use crate::asset::Asset;
-use crate::deal::Deal;
+use crate::checks::FieldChecks;
 use crate::party::Party;
+use crate::ranges::amount_allowed;
 use crate::ranges::currency_allowed;
 use crate::ranges::days_allowed;
 use crate::ranges::interval_allowed;
@@ -80,21 +81,16 @@ impl Terms {
     pub fn check(self) -> Answer
         ensures { λ r. ⌜ answerNumber r ≡ termsRefusal self ⌝ }
     {
-        if self.amount > Deal::AMOUNT_LIMIT {
-            return Answer::AmountAboveLimit;
-        }
-        if !self.codes_known() {
-            return Answer::UnknownCode;
-        }
-        if !self.steps_allowed() {
-            return Answer::WrongStep;
-        }
-        if !currency_allowed(self.currency) {
-            return Answer::WrongCurrency;
-        }
-        if !self.days_in_range() {
-            return Answer::OutsideRange;
-        }
-        Answer::Accepted
+        let checks = FieldChecks {
+            amount: amount_allowed(self.amount),
+            codes: self.codes_known(),
+            steps: self.steps_allowed(),
+            currency: currency_allowed(self.currency),
+            ranges: self.days_in_range(),
+            // Asked of items alone.
+            terms: true,
+            conditions: true,
+        };
+        checks.answer()
     }
 }

@@ -9,9 +9,9 @@ use Rattle.tables.specs.Weights.{retail}
 use Rattle.tables.specs.Table.{table2019}
 use Rattle.scaling.specs.Period.{repoStyle, securedLending, holdingPeriod}
 use Rattle.scaling.specs.Scaling.{IsScaled}
-use Rattle.deal.specs.Terms.{termsOf}
+use Rattle.deal.specs.Fields.{termsIn}
 use Rattle.deal.specs.Answers.{answerNumber}
-use Rattle.deal.specs.Deals.{dealWith}
+use Rattle.deal.specs.Records.{dealWith}
 use Rattle.deal.specs.Editions.{tableFor}
 use Rattle.deal.specs.declared.terms.Terms.{Terms}
 use Rattle.deal.specs.declared.collateral.Collateral.{Collateral}
@@ -46,11 +46,11 @@ abroad = 840
 
 -- secured lending in cash to an unrated corporate, which weighs 100, for 1,800 days
 abbrev loan : ℕ → ℕ → Terms
-loan amount interval = termsOf amount 3 0 home securedLending interval 1800 cash 0 0
+loan amount interval = termsIn (amount ∷ 3 ∷ 0 ∷ home ∷ securedLending ∷ interval ∷ 1800 ∷ cash ∷ 0 ∷ 0 ∷ [])
 
 -- repo-style lending of other listed equity, revalued every six business days
 abbrev repo : Terms
-repo = termsOf 100 3 0 home repoStyle 6 1800 otherListedEquity 0 0
+repo = termsIn (100 ∷ 3 ∷ 0 ∷ home ∷ repoStyle ∷ 6 ∷ 1800 ∷ otherListedEquity ∷ 0 ∷ 0 ∷ [])
 
 -- goods with no step and no issue life, every condition met
 abbrev pledge : ℕ → ℕ → ℕ → ℕ → ℕ → Collateral
@@ -107,7 +107,7 @@ portion place = getD (reportOf covered .guarantees) place noGuarantee .portion
 
 -- a retail deal with nothing pledged
 abbrev retailAmount : ℕ → ℕ
-retailAmount amount = reportOf (dealWith (termsOf amount retail 0 home securedLending 1 1800 cash 0 0) [] []) .rwa
+retailAmount amount = reportOf (dealWith (termsIn (amount ∷ retail ∷ 0 ∷ home ∷ securedLending ∷ 1 ∷ 1800 ∷ cash ∷ 0 ∷ 0 ∷ [])) [] []) .rwa
 
 abbrev pub starred : List Figure
 starred =

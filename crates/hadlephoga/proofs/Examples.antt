@@ -5,9 +5,7 @@ use mathlib.Core.List.{List, [], _∷_, _++_}
 use lib.ListN.{getD, length, replicate}
 use Rattle.base.specs.Choice.{if_then_else_}
 use Rattle.deal.specs.Answers.{answerNumber}
-use Rattle.deal.specs.Deals.{zeroCollateral, zeroGuarantee}
-use Rattle.deal.specs.Fields.{collateralIn, guaranteeIn, termsIn}
-use Rattle.deal.specs.Terms.{termsOf}
+use Rattle.deal.specs.Fields.{zeroCollateral, zeroGuarantee, collateralIn, guaranteeIn, termsIn}
 use Rattle.deal.specs.declared.answer.Answer.the-variants.{Accepted}
 use Rattle.relief.specs.Grounds.{groundNumber}
 use Rattle.relief.specs.Outcomes.{outcomeGround, outcomeValue}
@@ -44,7 +42,7 @@ countedUp first (suc n) = first ∷ countedUp (suc first) n
 
 -- each number of a record is the field that it should be: of the terms, the counts, and the first and last item of each list
 record-in-place :
-    (dealIn (countedUp 0 332) .terms ≡ termsOf 0 1 2 3 4 5 6 7 8 9)
+    (dealIn (countedUp 0 332) .terms ≡ termsIn (0 ∷ 1 ∷ 2 ∷ 3 ∷ 4 ∷ 5 ∷ 6 ∷ 7 ∷ 8 ∷ 9 ∷ []))
     × (dealIn (countedUp 0 332) .collateral .count ≡ 10)
     × (getD (dealIn (countedUp 0 332) .collateral .items) 0 zeroCollateral ≡ collateralIn (countedUp 11 11))
     × (getD (dealIn (countedUp 0 332) .collateral .items) 15 zeroCollateral ≡ collateralIn (countedUp 176 11))

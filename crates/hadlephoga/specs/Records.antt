@@ -3,7 +3,7 @@ use Prim.Native.Nat.{ℕ, zero, suc}
 use mathlib.Core.List.{List, [], _∷_, map}
 use lib.ListN.{take, drop, getD}
 use Rattle.deal.specs.Fields.{collateralIn, collateralWidth, guaranteeIn, guaranteeWidth, termsIn}
-use Rattle.deal.specs.Items.{listLimit}
+use Rattle.deal.specs.Lists.{listLimit}
 use Rattle.deal.specs.declared.deal.Deal.{Deal}
 
 -- so many pieces of this width, one behind the other

@@ -3,7 +3,7 @@ ghost use mathlib.Core.Path.{_≡_};
 ghost use mathlib.Core.List.{map};
 ghost use lib.ListN.{length};
 ghost use Rattle.deal.specs.Fields.{collateralIn, collateralWidth, guaranteeIn, guaranteeWidth};
-ghost use Rattle.deal.specs.Items.{listLimit};
+ghost use Rattle.deal.specs.Lists.{listLimit};
 ghost use Rattle.hadlephoga.specs.Records.{dealIn, pieces, recordLength};
 ghost use Rattle.hadlephoga.specs.Reports.{reportIn};
 use deal::collateral::Collateral;

@@ -6,14 +6,13 @@ use mathlib.Core.List.{List, [], _∷_, map}
 use lib.ListN.{replicate}
 use Rattle.base.specs.Choice.{if_then_else_}
 use Rattle.base.specs.Range.{within}
-use Rattle.deal.specs.Terms.{termsOf}
+use Rattle.deal.specs.Fields.{collateralIn, guaranteeIn, termsIn}
 use Rattle.base.proofs.Every.{every}
 use Rattle.text.specs.Bytes.{byte, bytes}
 use Rattle.text.specs.Text.{tab, lineFeed}
 use Rattle.text.proofs.Bytes.{only}
 use Rattle.text.specs.Decimal.{decimalFrom}
 use Rattle.lines.specs.Numbers.{digitsOf, numberAllowed, numberRead, numberOf}
-use Rattle.deal.specs.Fields.{collateralIn, guaranteeIn, termsIn}
 use Rattle.lines.specs.Fields.{fieldOf, isEnd, andThen, withNumber, fieldsOf}
 use Rattle.lines.specs.Lines.{dealLine, collateralLine, guaranteeLine, ifRead, lineOf}
 use Rattle.lines.specs.declared.number.Number.{Number}
@@ -46,7 +45,7 @@ numbers-read = refl
 -- the first three lines of the example of 01
 abbrev said : List Line
 said =
-    DealLine (termsOf 1000000 3 0 978 3 1 1800 1 0 0)
+    DealLine (termsIn (1000000 ∷ 3 ∷ 0 ∷ 978 ∷ 3 ∷ 1 ∷ 1800 ∷ 1 ∷ 0 ∷ 0 ∷ []))
     ∷ CollateralLine (record {
       amount = 400000;
       asset = record { goods = 2; step = 1; life = 720 };
@@ -119,7 +118,7 @@ fields-in-place :
     ∷ bytes "G\t9123456789000\t9123456789001\t9123456789002\t9123456789003\t9123456789004\t9123456789005\t9123456789006\t9123456789007\t9123456789008\n"
     ∷ []
     )
-    ≡ DealLine (termsOf 9123456789000 9123456789001 9123456789002 9123456789003 9123456789004 9123456789005 9123456789006 9123456789007 9123456789008 9123456789009)
+    ≡ DealLine (termsIn (9123456789000 ∷ 9123456789001 ∷ 9123456789002 ∷ 9123456789003 ∷ 9123456789004 ∷ 9123456789005 ∷ 9123456789006 ∷ 9123456789007 ∷ 9123456789008 ∷ 9123456789009 ∷ []))
     ∷ CollateralLine (record {
       amount = 9123456789000;
       asset = record { goods = 9123456789001; step = 9123456789002; life = 9123456789003 };

@@ -7,9 +7,9 @@ use Rattle.base.specs.Places.{inPlaces}
 use Rattle.base.proofs.Places.{map-places}
 use Rattle.base.proofs.Placed.{map-zip}
 use Rattle.tables.specs.Table.{Table}
-use Rattle.deal.specs.Deals.{accepted}
+use Rattle.deal.specs.Records.{accepted}
 use Rattle.deal.specs.Editions.{tableFor}
-use Rattle.deal.specs.Items.{listLimit}
+use Rattle.deal.specs.Lists.{listLimit}
 use Rattle.deal.specs.Views.{View, viewOf}
 use Rattle.deal.specs.declared.terms.Terms.{Terms}
 use Rattle.deal.specs.declared.collateral.Collateral.{Collateral}

@@ -3,8 +3,8 @@ use Prim.Native.Nat.{ℕ}
 use mathlib.Core.Path.{_≡_, refl}
 use mathlib.Core.List.{List, [], _∷_, map}
 use lib.ListN.{take}
-use Rattle.deal.specs.Terms.{termsOf}
-use Rattle.deal.specs.Deals.{dealWith}
+use Rattle.deal.specs.Fields.{termsIn}
+use Rattle.deal.specs.Records.{dealWith}
 use Rattle.deal.specs.declared.terms.Terms.{Terms}
 use Rattle.deal.specs.declared.collateral.Collateral.{Collateral}
 use Rattle.deal.specs.declared.guarantee.Guarantee.{Guarantee}
@@ -14,7 +14,7 @@ use Rattle.relief.proofs.Computed.{computed}
 
 -- secured lending in cash to a corporate at this step, for 1,800 days
 abbrev loan : ℕ → Terms
-loan step = termsOf 10000 3 step 978 3 1 1800 1 0 0
+loan step = termsIn (10000 ∷ 3 ∷ step ∷ 978 ∷ 3 ∷ 1 ∷ 1800 ∷ 1 ∷ 0 ∷ 0 ∷ [])
 
 -- goods, step, issue life; residual and original term; lawful, unrelated, not_in_rating
 abbrev pledge : ℕ → ℕ → ℕ → ℕ → ℕ → ℕ → ℕ → ℕ → Collateral
@@ -112,13 +112,13 @@ ten = record {
   listed = 0;
 }
 
-pub capped : reportOf (dealWith (termsOf 100 3 0 978 1 6 1800 8 0 0) (ten ∷ []) []) .exposure ≡ 100
+pub capped : reportOf (dealWith (termsIn (100 ∷ 3 ∷ 0 ∷ 978 ∷ 1 ∷ 6 ∷ 1800 ∷ 8 ∷ 0 ∷ 0 ∷ [])) (ten ∷ []) []) .exposure ≡ 100
 unfolding computed
 capped = refl
 
 -- short cover that lasts as long as its deal is no mismatch: neither 25 nor 26
-pub no-mismatch : (collateralGrounds (termsOf 10000 3 0 978 3 1 30 1 0 0) (pledge 1 0 0 30 30 1 1 1 ∷ []) 1 ≡ 0 ∷ [])
-    × (guaranteeGrounds (termsOf 10000 3 0 978 3 1 30 1 0 0) (guarantee 2 978 30 30 1 1 1 ∷ []) 1 ≡ 0 ∷ [])
+pub no-mismatch : (collateralGrounds (termsIn (10000 ∷ 3 ∷ 0 ∷ 978 ∷ 3 ∷ 1 ∷ 30 ∷ 1 ∷ 0 ∷ 0 ∷ [])) (pledge 1 0 0 30 30 1 1 1 ∷ []) 1 ≡ 0 ∷ [])
+    × (guaranteeGrounds (termsIn (10000 ∷ 3 ∷ 0 ∷ 978 ∷ 3 ∷ 1 ∷ 30 ∷ 1 ∷ 0 ∷ 0 ∷ [])) (guarantee 2 978 30 30 1 1 1 ∷ []) 1 ≡ 0 ∷ [])
 unfolding computed
 no-mismatch = (refl, refl)
 

@@ -18,8 +18,9 @@ use Rattle.cover.specs.Cover.{lowerWeighted, equal, before, portion, coveredAft
 use Rattle.deal.specs.Parties.{partyStepAllowed}
 use Rattle.deal.specs.Assets.{assetStepAllowed, lifeAllowed}
 use Rattle.deal.specs.Terms.{termsTests, termsRefusal}
-use Rattle.deal.specs.Items.{collateralTests, collateralRefusal, guaranteeTests, guaranteeRefusal, collateralListAllowed, guaranteeListAllowed}
-use Rattle.deal.specs.Deals.{accepted, recordAllowed}
+use Rattle.deal.specs.Collateral.{collateralTests, collateralRefusal, collateralListAllowed}
+use Rattle.deal.specs.Guarantees.{guaranteeTests, guaranteeRefusal, guaranteeListAllowed}
+use Rattle.deal.specs.Records.{accepted, recordAllowed}
 use Rattle.deal.specs.Editions.{tableFor}
 use Rattle.deal.specs.declared.deal.Deal.{Deal}
 use Rattle.relief.specs.declared.report.Report.{Report}

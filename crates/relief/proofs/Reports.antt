@@ -19,8 +19,9 @@ use Rattle.tables.specs.Table.{Table}
 use Rattle.cover.specs.Cover.{portion, portions, covered, uncovered}
 use Rattle.cover.proofs.Portions.{conserved, covered-length, covered-at, zero-covers-zero}
 use Rattle.cover.specs.declared.protection.Protection.{Protection}
-use Rattle.deal.specs.Items.{listLimit}
-use Rattle.deal.specs.Deals.{accepted, zeroGuarantee}
+use Rattle.deal.specs.Lists.{listLimit}
+use Rattle.deal.specs.Records.{accepted}
+use Rattle.deal.specs.Fields.{zeroGuarantee}
 use Rattle.deal.specs.Views.{View, viewOf}
 use Rattle.deal.specs.declared.guarantee.Guarantee.{Guarantee}
 use Rattle.deal.specs.declared.deal.Deal.{Deal}

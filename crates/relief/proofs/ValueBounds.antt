@@ -19,7 +19,7 @@ use Rattle.cover.specs.Cover.{weightedSum}
 use Rattle.cover.specs.Limits.{withinLimits}
 use Rattle.cover.proofs.Laws.{weighted-bound}
 use Rattle.deal.specs.Editions.{tableFor}
-use Rattle.deal.specs.Items.{guaranteeRefusal}
+use Rattle.deal.specs.Guarantees.{guaranteeRefusal}
 use Rattle.deal.specs.Views.{View}
 use Rattle.deal.proofs.Plain.{PlainTerms, PlainGuarantee, plain-guarantee}
 use Rattle.deal.specs.declared.terms.Terms.{Terms}

@@ -5,9 +5,9 @@ use mathlib.Core.List.{List, [], map}
 use lib.Dec.{eqb}
 use Rattle.base.specs.Choice.{if_then_else_}
 use Rattle.base.specs.Places.{inPlaces}
-use Rattle.deal.specs.Deals.{accepted}
+use Rattle.deal.specs.Records.{accepted}
 use Rattle.deal.specs.Editions.{tableFor}
-use Rattle.deal.specs.Items.{listLimit}
+use Rattle.deal.specs.Lists.{listLimit}
 use Rattle.deal.specs.Views.{viewOf}
 use Rattle.deal.specs.declared.deal.Deal.{Deal}
 use Rattle.relief.specs.declared.outcome.Outcome.{Outcome}

@@ -7,8 +7,8 @@ use Rattle.base.specs.FirstMet.{_when_, firstMet}
 use Rattle.base.specs.Places.{inPlaces}
 use Rattle.tables.specs.Table.{Table}
 use Rattle.cover.specs.Cover.{portions, uncovered}
-use Rattle.deal.specs.Items.{listLimit}
-use Rattle.deal.specs.Deals.{accepted}
+use Rattle.deal.specs.Lists.{listLimit}
+use Rattle.deal.specs.Records.{accepted}
 use Rattle.deal.specs.Editions.{tableFor}
 use Rattle.deal.specs.Views.{View, viewOf}
 use Rattle.deal.specs.declared.answer.Answer.the-variants.{Accepted, RecordNotAccepted}

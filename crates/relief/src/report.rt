@@ -3,7 +3,7 @@ ghost use mathlib.Core.Bool.{true};
 ghost use mathlib.Core.List.{map};
 ghost use mathlib.Core.Path.{_≡_};
 ghost use Rattle.deal.specs.Answers.{answerNumber};
-ghost use Rattle.deal.specs.Deals.{accepted as acceptedOf, dealOf};
+ghost use Rattle.deal.specs.Records.{accepted as acceptedOf, dealOf};
 ghost use Rattle.deal.specs.Editions.{tableFor};
 ghost use Rattle.deal.specs.Views.{viewOf};
 ghost use Rattle.relief.specs.ByNumber.{collateralPlaces, guaranteePlaces, placeOf};

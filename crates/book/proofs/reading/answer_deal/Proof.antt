@@ -8,7 +8,7 @@ use lib.ListN.{length, take, drop}
 use lib.Seq.{length-take-le}
 use Rattle.text.specs.Text.{firstLine, linesOf}
 use Rattle.text.proofs.Lines.{first-at-some, first-inside, first-taken}
-use Rattle.deal.specs.Deals.{openedDeal}
+use Rattle.deal.specs.Opening.{openedDeal}
 use Rattle.deal.specs.Terms.{termsRefusal}
 use Rattle.deal.specs.declared.terms.Terms.{Terms}
 use Rattle.lines.specs.Lines.{lineOf}

@@ -1,7 +1,6 @@
 -- `deal::fields::collateral_in` meets its contract: each field is read from its place. Assumes nothing.
 use mathlib.Core.Path.{refl}
 use Rattle.base.proofs.Tests.{tests}
-use Rattle.deal.specs.Fields.{collateralIn}
 use Rattle.deal.proofs.fields.collateral_in.Statement.{statement}
 use Rattle.deal.proofs.fields.collateral_in.Tie as tie
 
@@ -39,7 +38,6 @@ shared-slice-read-t24 : tie.Need-shared-slice-read-t24
 shared-slice-read-t24 c = search tests
 
 returns : tie.Need-returns
-unfolding collateralIn
 returns c = refl
 
 pub collateral-in-spec : {M : Type 1} → statement M

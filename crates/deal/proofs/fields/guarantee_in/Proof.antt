@@ -1,7 +1,6 @@
 -- `deal::fields::guarantee_in` meets its contract: each field is read from its place. Assumes nothing.
 use mathlib.Core.Path.{refl}
 use Rattle.base.proofs.Tests.{tests}
-use Rattle.deal.specs.Fields.{guaranteeIn}
 use Rattle.deal.proofs.fields.guarantee_in.Statement.{statement}
 use Rattle.deal.proofs.fields.guarantee_in.Tie as tie
 
@@ -33,7 +32,6 @@ shared-slice-read-t20 : tie.Need-shared-slice-read-t20
 shared-slice-read-t20 c = search tests
 
 returns : tie.Need-returns
-unfolding guaranteeIn
 returns c = refl
 
 pub guarantee-in-spec : {M : Type 1} → statement M

@@ -1,7 +1,6 @@
 -- `deal::fields::terms_in` meets its contract: each field is read from its place. Assumes nothing.
 use mathlib.Core.Path.{refl}
 use Rattle.base.proofs.Tests.{tests}
-use Rattle.deal.specs.Fields.{termsIn}
 use Rattle.deal.proofs.fields.terms_in.Statement.{statement}
 use Rattle.deal.proofs.fields.terms_in.Tie as tie
 
@@ -36,7 +35,6 @@ shared-slice-read-t22 : tie.Need-shared-slice-read-t22
 shared-slice-read-t22 c = search tests
 
 returns : tie.Need-returns
-unfolding termsIn
 returns c = refl
 
 pub terms-in-spec : {M : Type 1} → statement M

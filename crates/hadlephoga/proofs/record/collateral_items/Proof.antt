@@ -3,8 +3,7 @@ use Prim.Native.Nat.{_*_, _-_, _≤_}
 use mathlib.Core.Path.{refl}
 use native.Mathlib.Omega.{arith}
 use Rattle.base.proofs.Tests.{tests}
-use Rattle.deal.specs.Deals.{zeroCollateral}
-use Rattle.deal.specs.Fields.{collateralIn}
+use Rattle.deal.specs.Fields.{zeroCollateral, collateralIn}
 use Rattle.hadlephoga.proofs.Pieces.{Filled, part-wide, place-filled, all-filled}
 use Rattle.hadlephoga.proofs.record.collateral_items.Statement.{statement}
 use Rattle.hadlephoga.proofs.record.collateral_items.Tie as tie

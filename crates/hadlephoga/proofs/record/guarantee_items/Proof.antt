@@ -3,8 +3,7 @@ use Prim.Native.Nat.{_*_, _-_, _≤_}
 use mathlib.Core.Path.{refl}
 use native.Mathlib.Omega.{arith}
 use Rattle.base.proofs.Tests.{tests}
-use Rattle.deal.specs.Deals.{zeroGuarantee}
-use Rattle.deal.specs.Fields.{guaranteeIn}
+use Rattle.deal.specs.Fields.{zeroGuarantee, guaranteeIn}
 use Rattle.hadlephoga.proofs.Pieces.{Filled, part-wide, place-filled, all-filled}
 use Rattle.hadlephoga.proofs.record.guarantee_items.Statement.{statement}
 use Rattle.hadlephoga.proofs.record.guarantee_items.Tie as tie

@@ -13,7 +13,7 @@ use Rattle.base.proofs.Sum.{sum-take}
 use Rattle.deal.specs.Editions.{tableFor}
 use Rattle.deal.specs.declared.terms.Terms.{Terms}
 use Rattle.deal.specs.declared.collateral.Collateral.{Collateral}
-use Rattle.deal.specs.Deals.{zeroCollateral}
+use Rattle.deal.specs.Fields.{zeroCollateral}
 use Rattle.deal.proofs.Plain.{collateral-count, collateral-at}
 use Rattle.relief.specs.declared.collateral.CollateralReport.{CollateralReport}
 use Rattle.relief.specs.Outcomes.{outcomeValue}

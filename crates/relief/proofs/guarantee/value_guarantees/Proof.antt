@@ -9,7 +9,7 @@ use Rattle.base.proofs.Arrays.{unmapped}
 use Rattle.base.proofs.Places.{fill-more, placed}
 use Rattle.deal.specs.Editions.{tableFor}
 use Rattle.cover.specs.declared.protection.Protection.{Protection}
-use Rattle.deal.specs.Deals.{zeroGuarantee}
+use Rattle.deal.specs.Fields.{zeroGuarantee}
 use Rattle.deal.specs.declared.terms.Terms.{Terms}
 use Rattle.deal.specs.declared.guarantee.Guarantee.{Guarantee}
 use Rattle.deal.proofs.Plain.{guarantee-count, guarantee-taken}

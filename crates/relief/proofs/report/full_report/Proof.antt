@@ -12,9 +12,10 @@ use Rattle.base.proofs.Places.{taken}
 use Rattle.tables.specs.Table.{Table}
 use Rattle.valuation.specs.Exposure.{riskWeightedAmount}
 use Rattle.cover.specs.Cover.{coverOf}
-use Rattle.deal.specs.Deals.{dealOf}
+use Rattle.deal.specs.Records.{dealOf}
 use Rattle.deal.specs.Editions.{tableFor}
-use Rattle.deal.specs.Items.{collateralListAllowed, guaranteeListAllowed}
+use Rattle.deal.specs.Collateral.{collateralListAllowed}
+use Rattle.deal.specs.Guarantees.{guaranteeListAllowed}
 use Rattle.deal.specs.Terms.{termsRefusal}
 use Rattle.deal.specs.Views.{View, viewOf}
 use Rattle.deal.specs.declared.answer.Answer.the-variants.{Accepted}

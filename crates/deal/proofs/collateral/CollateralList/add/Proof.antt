@@ -1,11 +1,11 @@
 -- `deal::collateral::CollateralList::add` meets its contract: 6 first, then the item's own tests; one place is set, and the count is one more. Assumes nothing.
 use mathlib.Core.Path.{_≡_, refl, sym, _∙_}
-use borrow.Author.Tests.{le-leb, lt-leb, eqb-true}
-use Rattle.base.proofs.FirstMet.{met-first, not-met}
+use borrow.Author.Tests.{eqb-true}
 use Rattle.base.proofs.Tests.{tests, told-true, told-false}
 use Rattle.deal.specs.Answers.{answerNumber}
-use Rattle.deal.specs.Items.{collateralRefusal, collateralListTests, collateralListRefusal}
+use Rattle.deal.specs.Collateral.{collateralTests, collateralRefusal, collateralListTests, collateralListRefusal}
 use Rattle.deal.proofs.Answers.{agreed}
+use Rattle.deal.proofs.Lists.{full-first, own-tests}
 use Rattle.deal.proofs.Deals.{collateral-list-refused, collateral-list-added}
 use Rattle.deal.proofs.collateral.CollateralList.add.Statement.{statement}
 use Rattle.deal.proofs.collateral.CollateralList.add.Tie as tie
@@ -14,7 +14,7 @@ returns : tie.Need-returns
 unfolding collateralListRefusal collateralListTests answerNumber
 returns c =
     let a = c .before .args in
-    let e : collateralListRefusal (a .t1) (a .item) ≡ 6 = met-first 6 _ _ (le-leb _ _ (c .if1 .taken)) in
+    let e : collateralListRefusal (a .t1) (a .item) ≡ 6 = full-first collateralTests _ _ (c .if1 .taken) in
     (sym (collateral-list-refused _ _ (rw e refl)), sym e)
 
 check-requires : tie.Need-check-requires
@@ -26,7 +26,7 @@ is-accepted-requires c κs = tt
 -- the list is not full, so the item's own fields decide
 past-6 : (c : tie.Else1) → let a = c .before .args in collateralListRefusal (a .t1) (a .item) ≡ collateralRefusal (a .item)
 unfolding collateralListRefusal collateralListTests collateralRefusal
-past-6 c = not-met 6 _ _ (lt-leb _ _ (c .if1 .left))
+past-6 c = own-tests collateralTests _ _ (c .if1 .left)
 
 mul-item : tie.Need-mul-item
 mul-item c = search tests

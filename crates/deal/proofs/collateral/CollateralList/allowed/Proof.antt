@@ -1,36 +1,28 @@
 -- `deal::collateral::CollateralList::allowed` meets its contract: the items before the ith are accepted ones. Assumes nothing.
-use Prim.Native.Nat.{_-_, _≤_}
-use mathlib.Core.Path.{_≡_, refl, sym}
-use mathlib.Core.Bool.{Bool, true}
+use Prim.Native.Nat.{_-_}
+use mathlib.Core.Path.{_≡_, sym}
 use native.Mathlib.Omega.{arith}
-use borrow.Author.Tests.{lt-leb, le-leb}
-use lib.Dec.{eqb}
-use lib.ListN.{length, take}
-use Rattle.base.specs.All.{allPass}
-use Rattle.base.proofs.All.{all-more, all-not}
+use lib.ListN.{length}
 use Rattle.base.proofs.Arrays.{unmapped}
-use Rattle.base.proofs.Tests.{tests, and-true, and-first, and-second, told-not-true, told-not-false}
-use Rattle.deal.specs.Items.{collateralRefusal, collateralListAllowed}
-use Rattle.deal.specs.declared.collateral.Collateral.{Collateral}
+use Rattle.base.proofs.Tests.{tests, told-not-true, told-not-false}
+use Rattle.deal.specs.Collateral.{collateralRefusal, collateralListAllowed}
 use Rattle.deal.proofs.Answers.{agreed}
+use Rattle.deal.proofs.Lists.{PassedTo, all-passed, none-passed, one-passed, one-refused, too-many}
 use Rattle.deal.proofs.collateral.CollateralList.allowed.Statement.{statement}
 use Rattle.deal.proofs.collateral.CollateralList.allowed.Tie as tie
 
-abbrev passes : Collateral → Bool
-passes x = eqb (collateralRefusal x) 0
-
 abbrev Inv-loop : tie.InvT-loop
-Inv-loop items count i₀ i = (i ≤ count) × (allPass (take i items) passes ≡ true)
+Inv-loop items count i₀ i = PassedTo collateralRefusal items count i
 
 abbrev μ-loop : tie.MeasureT-loop
 μ-loop items count i₀ i = count - i
 
 returns : tie.Need-returns Inv-loop μ-loop
 unfolding collateralListAllowed
-returns c = sym (and-first _ _ (lt-leb _ _ (c .if1 .taken)))
+returns c = sym (too-many collateralRefusal _ _ (c .if1 .taken))
 
 loop-holds : tie.Need-loop-holds Inv-loop μ-loop
-loop-holds c = (omega arith, refl)
+loop-holds c = let l = c .before .before .args .self in none-passed collateralRefusal (l .items) (l .count)
 
 mul-item : tie.Need-mul-item Inv-loop μ-loop
 mul-item c = search tests
@@ -52,8 +44,7 @@ unfolding collateralListAllowed
 returns-2 c =
     let i = c .before .before .before .before .before in
     let l = long (i .before .before .before) in
-    let e = all-not passes _ (i .loop .i) (i .before .before .before .args .self .items) _ (c .before .before .before .before .loop-test .taken) (omega (arith, l)) (told-not-false _ _ (agreed (c .before .is-accepted .ensures) (c .before .before .check .ensures)) (c .if2 .taken)) in
-    sym (and-second _ _ (le-leb _ _ (i .before .if1 .left)) e)
+    sym (one-refused collateralRefusal _ _ (i .loop .i) _ (i .before .if1 .left) (c .before .before .before .before .loop-test .taken) (omega (arith, l)) (told-not-false _ _ (agreed (c .before .is-accepted .ensures) (c .before .before .check .ensures)) (c .if2 .taken)))
 
 add-i : tie.Need-add-i Inv-loop μ-loop
 add-i c = search tests
@@ -64,14 +55,13 @@ loop-less c = search tests
 loop-again : tie.Need-loop-again Inv-loop μ-loop
 loop-again c =
     let i = c .before .before .before .before .before in
-    (search tests, all-more passes (i .loop .i) (i .before .before .before .args .self .items) _ (i .loop .inv .1) (told-not-true _ _ (agreed (c .before .is-accepted .ensures) (c .before .before .check .ensures)) (c .if2 .left)))
+    one-passed collateralRefusal _ _ (i .loop .i) _ (c .before .before .before .before .loop-test .taken) (i .loop .inv) (told-not-true _ _ (agreed (c .before .is-accepted .ensures) (c .before .before .check .ensures)) (c .if2 .left))
 
 returns-3 : tie.Need-returns-3 Inv-loop μ-loop
 unfolding collateralListAllowed
 returns-3 c =
     let i = c .before in
-    let e : i .loop .i ≡ i .before .before .before .args .self .count = omega arith in
-    sym (and-true _ _ (le-leb _ _ (i .before .if1 .left)) (rw e at (i .loop .inv .1)))
+    sym (all-passed collateralRefusal _ _ (i .loop .i) (i .before .if1 .left) (omega arith) (i .loop .inv))
 
 pub allowed-spec : {M : Type 1} → statement M
 allowed-spec =

@@ -1,5 +1,5 @@
 -- `deal::deal::Deal::accepted` meets its contract. Assumes nothing.
-use Rattle.deal.specs.Deals.{accepted}
+use Rattle.deal.specs.Records.{accepted}
 use Rattle.deal.proofs.deal.Deal.accepted.Statement.{statement}
 use Rattle.deal.proofs.deal.Deal.accepted.Tie as tie
 

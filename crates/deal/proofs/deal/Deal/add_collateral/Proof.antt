@@ -3,7 +3,7 @@ use mathlib.Core.Path.{refl, sym, _∙_}
 use Rattle.base.proofs.FirstMet.{met-first}
 use Rattle.base.proofs.Tests.{told-not, told-not-true}
 use Rattle.deal.specs.Answers.{answerNumber}
-use Rattle.deal.specs.Deals.{addCollateralTests, addCollateralRefusal}
+use Rattle.deal.specs.Adding.{addCollateralTests, addCollateralRefusal}
 use Rattle.deal.proofs.Deals.{collateral-refused, collateral-by-list, collateral-with}
 use Rattle.deal.proofs.deal.Deal.add_collateral.Statement.{statement}
 use Rattle.deal.proofs.deal.Deal.add_collateral.Tie as tie

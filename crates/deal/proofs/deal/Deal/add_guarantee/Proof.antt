@@ -3,7 +3,7 @@ use mathlib.Core.Path.{refl, sym, _∙_}
 use Rattle.base.proofs.FirstMet.{met-first}
 use Rattle.base.proofs.Tests.{told-not, told-not-true}
 use Rattle.deal.specs.Answers.{answerNumber}
-use Rattle.deal.specs.Deals.{addGuaranteeTests, addGuaranteeRefusal}
+use Rattle.deal.specs.Adding.{addGuaranteeTests, addGuaranteeRefusal}
 use Rattle.deal.proofs.Deals.{guarantee-refused, guarantee-by-list, guarantee-with}
 use Rattle.deal.proofs.deal.Deal.add_guarantee.Statement.{statement}
 use Rattle.deal.proofs.deal.Deal.add_guarantee.Tie as tie

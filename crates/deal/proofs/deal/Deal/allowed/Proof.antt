@@ -1,6 +1,6 @@
 -- `deal::deal::Deal::allowed` meets its contract. Assumes nothing.
 use Rattle.base.proofs.Tests.{and-same}
-use Rattle.deal.specs.Deals.{recordAllowed}
+use Rattle.deal.specs.Records.{recordAllowed}
 use Rattle.deal.proofs.Answers.{agreed}
 use Rattle.deal.proofs.deal.Deal.allowed.Statement.{statement}
 use Rattle.deal.proofs.deal.Deal.allowed.Tie as tie

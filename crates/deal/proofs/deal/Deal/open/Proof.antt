@@ -2,7 +2,7 @@
 use mathlib.Core.Path.{sym, _∙_}
 use Rattle.base.proofs.Choice.{if-true, if-false}
 use Rattle.base.proofs.Tests.{told-not-true, told-not-false}
-use Rattle.deal.specs.Deals.{openedDeal}
+use Rattle.deal.specs.Opening.{openedDeal}
 use Rattle.deal.proofs.Answers.{agreed}
 use Rattle.deal.proofs.deal.Deal.open.Statement.{statement}
 use Rattle.deal.proofs.deal.Deal.open.Tie as tie

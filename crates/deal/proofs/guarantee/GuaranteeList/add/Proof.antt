@@ -1,11 +1,11 @@
 -- `deal::guarantee::GuaranteeList::add` meets its contract: 6 first, then the item's own tests; one place is set, and the count is one more. Assumes nothing.
 use mathlib.Core.Path.{_≡_, refl, sym, _∙_}
-use borrow.Author.Tests.{le-leb, lt-leb, eqb-true}
-use Rattle.base.proofs.FirstMet.{met-first, not-met}
+use borrow.Author.Tests.{eqb-true}
 use Rattle.base.proofs.Tests.{tests, told-true, told-false}
 use Rattle.deal.specs.Answers.{answerNumber}
-use Rattle.deal.specs.Items.{guaranteeRefusal, guaranteeListTests, guaranteeListRefusal}
+use Rattle.deal.specs.Guarantees.{guaranteeTests, guaranteeRefusal, guaranteeListTests, guaranteeListRefusal}
 use Rattle.deal.proofs.Answers.{agreed}
+use Rattle.deal.proofs.Lists.{full-first, own-tests}
 use Rattle.deal.proofs.Deals.{guarantee-list-refused, guarantee-list-added}
 use Rattle.deal.proofs.guarantee.GuaranteeList.add.Statement.{statement}
 use Rattle.deal.proofs.guarantee.GuaranteeList.add.Tie as tie
@@ -14,7 +14,7 @@ returns : tie.Need-returns
 unfolding guaranteeListRefusal guaranteeListTests answerNumber
 returns c =
     let a = c .before .args in
-    let e : guaranteeListRefusal (a .t1) (a .item) ≡ 6 = met-first 6 _ _ (le-leb _ _ (c .if1 .taken)) in
+    let e : guaranteeListRefusal (a .t1) (a .item) ≡ 6 = full-first guaranteeTests _ _ (c .if1 .taken) in
     (sym (guarantee-list-refused _ _ (rw e refl)), sym e)
 
 check-requires : tie.Need-check-requires
@@ -26,7 +26,7 @@ is-accepted-requires c κs = tt
 -- the list is not full, so the item's own fields decide
 past-6 : (c : tie.Else1) → let a = c .before .args in guaranteeListRefusal (a .t1) (a .item) ≡ guaranteeRefusal (a .item)
 unfolding guaranteeListRefusal guaranteeListTests guaranteeRefusal
-past-6 c = not-met 6 _ _ (lt-leb _ _ (c .if1 .left))
+past-6 c = own-tests guaranteeTests _ _ (c .if1 .left)
 
 mul-item : tie.Need-mul-item
 mul-item c = search tests

@@ -7,7 +7,7 @@ use Rattle.base.specs.FirstMet.{firstOr}
 use Rattle.base.proofs.FirstMet.{met-first, not-met}
 use Rattle.scaling.proofs.Below.{factor-none}
 use Rattle.deal.specs.Answers.{answerNumber}
-use Rattle.deal.specs.Deals.{accepted}
+use Rattle.deal.specs.Records.{accepted}
 use Rattle.deal.specs.declared.deal.Deal.{Deal}
 use Rattle.deal.proofs.Deals.{accepted-allowed, allowed-parts}
 use Rattle.relief.specs.ByNumber.{placeOf, collateralPlaces, guaranteePlaces}

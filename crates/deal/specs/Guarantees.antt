@@ -1,0 +1,57 @@
+-- Guarantees, and the list of them. 01: What a deal holds; The four operations, Adding an item
+use Prim.Native.Nat.{ℕ, _+_}
+use mathlib.Core.Bool.{Bool, _&&_}
+use mathlib.Core.List.{List}
+use lib.Dec.{leb}
+use lib.ListN.{replicate}
+use Rattle.base.specs.FirstMet.{Test, firstMet}
+use Rattle.deal.specs.Ranges.{amountAllowed, currencyAllowed, daysAllowed, conditionAllowed}
+use Rattle.deal.specs.Parties.{providerKnown, partyStepAllowed}
+use Rattle.deal.specs.Checks.{fieldTests}
+use Rattle.deal.specs.Fields.{zeroGuarantee}
+use Rattle.deal.specs.Lists.{counted, itemsWith, listAllowed, listLimit, listTests, unlessRefused}
+use Rattle.deal.specs.declared.checks.FieldChecks.{FieldChecks}
+use Rattle.deal.specs.declared.guarantee.Guarantee.{Guarantee}
+use Rattle.deal.specs.declared.guarantee.GuaranteeList.{GuaranteeList}
+
+-- what adding asks of each field, as of collateral
+abbrev pub guaranteeChecks : Guarantee → FieldChecks
+guaranteeChecks g = record {
+  amount = amountAllowed (g .amount);
+  codes = providerKnown (g .provider);
+  steps = partyStepAllowed (g .provider);
+  currency = currencyAllowed (g .currency);
+  ranges = daysAllowed (g .residual) && daysAllowed (g .original);
+  terms = leb (g .residual) (g .original);
+  conditions = conditionAllowed (g .lawful) && conditionAllowed (g .direct) && conditionAllowed (g .«not_in_rating»);
+}
+
+unfoldable pub guaranteeTests : Guarantee → List (Test ℕ)
+guaranteeTests g = fieldTests (guaranteeChecks g)
+
+-- the first that is met, or 0
+unfoldable pub guaranteeRefusal : Guarantee → ℕ
+guaranteeRefusal g = firstMet (guaranteeTests g)
+
+abbrev pub countedGuarantees : GuaranteeList → List Guarantee
+countedGuarantees l = counted (l .items) (l .count)
+
+unfoldable pub guaranteeListAllowed : GuaranteeList → Bool
+guaranteeListAllowed l = listAllowed guaranteeRefusal (l .items) (l .count)
+
+abbrev pub emptyGuarantees : GuaranteeList
+emptyGuarantees = record { items = replicate listLimit zeroGuarantee; count = 0 }
+
+abbrev pub appendGuarantee : GuaranteeList → Guarantee → GuaranteeList
+appendGuarantee l g = record { items = itemsWith (l .items) (l .count) g; count = l .count + 1 }
+
+-- What adding does to this list, behind its 40, which is a test of the whole record (specs/Adding)
+unfoldable pub guaranteeListTests : GuaranteeList → Guarantee → List (Test ℕ)
+guaranteeListTests l g = listTests guaranteeTests (l .count) g
+
+unfoldable pub guaranteeListRefusal : GuaranteeList → Guarantee → ℕ
+guaranteeListRefusal l g = firstMet (guaranteeListTests l g)
+
+-- the list after it
+unfoldable pub guaranteeListWith : GuaranteeList → Guarantee → GuaranteeList
+guaranteeListWith l g = unlessRefused (guaranteeListRefusal l g) (appendGuarantee l g) l
