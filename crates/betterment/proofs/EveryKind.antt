@@ -1,19 +1,40 @@
 -- Each kind of betterment in the paper's words, for every value and at any place of a list: no constructor is narrower. Assumes nothing.
 use Prim.Native.Nat.{ℕ, _≤_, _<_}
-use mathlib.Core.Path.{_≡_}
+use mathlib.Core.Path.{_≡_, refl}
 use mathlib.Core.Bool.{true, false}
-use mathlib.Core.List.{List, [], _∷_, _++_}
+use mathlib.Core.List.{List, [], _∷_, _++_, map}
 use native.Mathlib.Omega.{arith}
+use lib.ListN.{getD}
+use Rattle.deal.specs.Fields.{collateralFields, guaranteeFields, termsFields}
 use Rattle.deal.specs.Records.{accepted}
 use Rattle.deal.specs.declared.terms.Terms.{Terms}
 use Rattle.deal.specs.declared.collateral.Collateral.{Collateral}
 use Rattle.deal.specs.declared.guarantee.Guarantee.{Guarantee}
 use Rattle.deal.specs.declared.deal.Deal.{Deal}
-use Rattle.betterment.specs.Changes.{collateralAmount, collateralStep, collateralCurrency, collateralResidual, collateralOriginal, collateralLawful, collateralUnrelated, collateralNotInRating, collateralListed, guaranteeAmount, guaranteeStep, guaranteeCurrency, guaranteeResidual, guaranteeOriginal, guaranteeLawful, guaranteeDirect, guaranteeNotInRating, termsInterval, termsLentStep}
+use Rattle.betterment.specs.Places.{changedCollateral, changedGuarantee, changedTerms, collateralPlaces, guaranteePlaces, intervalPlace, lentStepPlace}
 use Rattle.deal.specs.Views.{View, viewOf, acceptedView}
-use Rattle.betterment.specs.Betterments.{BetterCollateral, BetterGuarantee, BetterTerms, OneChanged, OneMore, Better, Betterments}
+use Rattle.betterment.specs.Betterments.{OneOf, BetterItem, BetterCollateral, BetterGuarantee, BetterTerms, OneChanged, OneMore, Better, Betterments}
 
--- at any place
+-- the places are those of the fields that the paper names
+abbrev at : List ℕ → List ℕ → List ℕ
+at numbers places = map (λ k. getD numbers k 0) places
+
+pub collateral-named : (c : Collateral) →
+    (at (collateralFields c) (collateralPlaces .higher) ≡ c .amount ∷ c .residual ∷ c .original ∷ [])
+    × ((at (collateralFields c) (collateralPlaces .steps ++ collateralPlaces .currencies) ≡ c .asset .step ∷ c .currency ∷ [])
+    × (at (collateralFields c) (collateralPlaces .conditions) ≡ c .lawful ∷ c .unrelated ∷ c .«not_in_rating» ∷ c .listed ∷ []))
+collateral-named c = (refl, (refl, refl))
+
+pub guarantee-named : (g : Guarantee) →
+    (at (guaranteeFields g) (guaranteePlaces .higher) ≡ g .amount ∷ g .residual ∷ g .original ∷ [])
+    × ((at (guaranteeFields g) (guaranteePlaces .steps ++ guaranteePlaces .currencies) ≡ g .provider .step ∷ g .currency ∷ [])
+    × (at (guaranteeFields g) (guaranteePlaces .conditions) ≡ g .lawful ∷ g .direct ∷ g .«not_in_rating» ∷ []))
+guarantee-named g = (refl, (refl, refl))
+
+pub terms-named : (t : Terms) → at (termsFields t) (intervalPlace ∷ lentStepPlace ∷ []) ≡ t .interval ∷ t .lent .step ∷ []
+terms-named t = refl
+
+-- at any place of a list
 changed-at : {A : Type 0} (Change : A → A → Type 0) (front back : List A) (old new : A) → Change old new →
     OneChanged Change (front ++ old ∷ back) (front ++ new ∷ back)
 changed-at Change [] back old new c = OneChanged.here c
@@ -35,35 +56,35 @@ module _ (t : Terms) (gs : List Guarantee) (front back : List Collateral) (c : C
   to {c′} b = Better.better-collateral (changed-at (BetterCollateral (t .currency)) front back c c′ b)
 
   -- "a higher amount, residual term or original term of an item"
-  pub collateral-amount : (new : ℕ) → c .amount < new → To (collateralAmount c new)
-  collateral-amount new h = to (BetterCollateral.higher-amount new (omega arith))
+  pub collateral-amount : (new : ℕ) → c .amount < new → To (changedCollateral 0 new c)
+  collateral-amount new h = to (BetterItem.higher OneOf.here new (omega arith))
 
-  pub collateral-residual : (new : ℕ) → c .residual < new → To (collateralResidual c new)
-  collateral-residual new h = to (BetterCollateral.higher-residual new (omega arith))
+  pub collateral-residual : (new : ℕ) → c .residual < new → To (changedCollateral 5 new c)
+  collateral-residual new h = to (BetterItem.higher (OneOf.later OneOf.here) new (omega arith))
 
-  pub collateral-original : (new : ℕ) → c .original < new → To (collateralOriginal c new)
-  collateral-original new h = to (BetterCollateral.higher-original new (omega arith))
+  pub collateral-original : (new : ℕ) → c .original < new → To (changedCollateral 6 new c)
+  collateral-original new h = to (BetterItem.higher (OneOf.later (OneOf.later OneOf.here)) new (omega arith))
 
   -- "a smaller step, old and new both 1 to 6, of an item"
-  pub collateral-step : (new : ℕ) → 1 ≤ new → new < c .asset .step → c .asset .step ≤ 6 → To (collateralStep c new)
-  collateral-step new one less six = to (BetterCollateral.smaller-step new (omega arith))
+  pub collateral-step : (new : ℕ) → 1 ≤ new → new < c .asset .step → c .asset .step ≤ 6 → To (changedCollateral 2 new c)
+  collateral-step new one less six = to (BetterItem.smaller-step OneOf.here new (omega arith))
 
   -- "an item's currency made the deal's"
-  pub collateral-currency : To (collateralCurrency c (t .currency))
-  collateral-currency = to BetterCollateral.deal-currency
+  pub collateral-currency : To (changedCollateral 4 (t .currency) c)
+  collateral-currency = to (BetterItem.deal-currency OneOf.here)
 
   -- "an item's condition from 0 to 1"
-  pub collateral-lawful : c .lawful ≡ 0 → To (collateralLawful c 1)
-  collateral-lawful e = to (BetterCollateral.now-lawful e)
+  pub collateral-lawful : c .lawful ≡ 0 → To (changedCollateral 7 1 c)
+  collateral-lawful e = to (BetterItem.now-met OneOf.here e)
 
-  pub collateral-unrelated : c .unrelated ≡ 0 → To (collateralUnrelated c 1)
-  collateral-unrelated e = to (BetterCollateral.now-unrelated e)
+  pub collateral-unrelated : c .unrelated ≡ 0 → To (changedCollateral 8 1 c)
+  collateral-unrelated e = to (BetterItem.now-met (OneOf.later OneOf.here) e)
 
-  pub collateral-not-in-rating : c .«not_in_rating» ≡ 0 → To (collateralNotInRating c 1)
-  collateral-not-in-rating e = to (BetterCollateral.now-not-in-rating e)
+  pub collateral-not-in-rating : c .«not_in_rating» ≡ 0 → To (changedCollateral 9 1 c)
+  collateral-not-in-rating e = to (BetterItem.now-met (OneOf.later (OneOf.later OneOf.here)) e)
 
-  pub collateral-listed : c .listed ≡ 0 → To (collateralListed c 1)
-  collateral-listed e = to (BetterCollateral.now-listed e)
+  pub collateral-listed : c .listed ≡ 0 → To (changedCollateral 10 1 c)
+  collateral-listed e = to (BetterItem.now-met (OneOf.later (OneOf.later (OneOf.later OneOf.here))) e)
 
   -- "one more item, anywhere in its list"
   pub collateral-more : Better (view t (front ++ back) gs) (view t (front ++ c ∷ back) gs)
@@ -76,40 +97,40 @@ module _ (t : Terms) (cs : List Collateral) (front back : List Guarantee) (g : G
   guarantee-to : {g′ : Guarantee} → BetterGuarantee (t .currency) g g′ → GuaranteeTo g′
   guarantee-to {g′} b = Better.better-guarantee (changed-at (BetterGuarantee (t .currency)) front back g g′ b)
 
-  pub guarantee-amount : (new : ℕ) → g .amount < new → GuaranteeTo (guaranteeAmount g new)
-  guarantee-amount new h = guarantee-to (BetterGuarantee.higher-amount new (omega arith))
+  pub guarantee-amount : (new : ℕ) → g .amount < new → GuaranteeTo (changedGuarantee 0 new g)
+  guarantee-amount new h = guarantee-to (BetterItem.higher OneOf.here new (omega arith))
 
-  pub guarantee-residual : (new : ℕ) → g .residual < new → GuaranteeTo (guaranteeResidual g new)
-  guarantee-residual new h = guarantee-to (BetterGuarantee.higher-residual new (omega arith))
+  pub guarantee-residual : (new : ℕ) → g .residual < new → GuaranteeTo (changedGuarantee 4 new g)
+  guarantee-residual new h = guarantee-to (BetterItem.higher (OneOf.later OneOf.here) new (omega arith))
 
-  pub guarantee-original : (new : ℕ) → g .original < new → GuaranteeTo (guaranteeOriginal g new)
-  guarantee-original new h = guarantee-to (BetterGuarantee.higher-original new (omega arith))
+  pub guarantee-original : (new : ℕ) → g .original < new → GuaranteeTo (changedGuarantee 5 new g)
+  guarantee-original new h = guarantee-to (BetterItem.higher (OneOf.later (OneOf.later OneOf.here)) new (omega arith))
 
-  pub guarantee-step : (new : ℕ) → 1 ≤ new → new < g .provider .step → g .provider .step ≤ 6 → GuaranteeTo (guaranteeStep g new)
-  guarantee-step new one less six = guarantee-to (BetterGuarantee.smaller-step new (omega arith))
+  pub guarantee-step : (new : ℕ) → 1 ≤ new → new < g .provider .step → g .provider .step ≤ 6 → GuaranteeTo (changedGuarantee 2 new g)
+  guarantee-step new one less six = guarantee-to (BetterItem.smaller-step OneOf.here new (omega arith))
 
-  pub guarantee-currency : GuaranteeTo (guaranteeCurrency g (t .currency))
-  guarantee-currency = guarantee-to BetterGuarantee.deal-currency
+  pub guarantee-currency : GuaranteeTo (changedGuarantee 3 (t .currency) g)
+  guarantee-currency = guarantee-to (BetterItem.deal-currency OneOf.here)
 
-  pub guarantee-lawful : g .lawful ≡ 0 → GuaranteeTo (guaranteeLawful g 1)
-  guarantee-lawful e = guarantee-to (BetterGuarantee.now-lawful e)
+  pub guarantee-lawful : g .lawful ≡ 0 → GuaranteeTo (changedGuarantee 6 1 g)
+  guarantee-lawful e = guarantee-to (BetterItem.now-met OneOf.here e)
 
-  pub guarantee-direct : g .direct ≡ 0 → GuaranteeTo (guaranteeDirect g 1)
-  guarantee-direct e = guarantee-to (BetterGuarantee.now-direct e)
+  pub guarantee-direct : g .direct ≡ 0 → GuaranteeTo (changedGuarantee 7 1 g)
+  guarantee-direct e = guarantee-to (BetterItem.now-met (OneOf.later OneOf.here) e)
 
-  pub guarantee-not-in-rating : g .«not_in_rating» ≡ 0 → GuaranteeTo (guaranteeNotInRating g 1)
-  guarantee-not-in-rating e = guarantee-to (BetterGuarantee.now-not-in-rating e)
+  pub guarantee-not-in-rating : g .«not_in_rating» ≡ 0 → GuaranteeTo (changedGuarantee 8 1 g)
+  guarantee-not-in-rating e = guarantee-to (BetterItem.now-met (OneOf.later (OneOf.later OneOf.here)) e)
 
   pub guarantees-more : Better (view t cs (front ++ back)) (view t cs (front ++ g ∷ back))
   guarantees-more = Better.more-guarantees (more-at front back g)
 
 module _ (t : Terms) (cs : List Collateral) (gs : List Guarantee) where
   -- "a smaller step .. of the goods lent"
-  pub lent-step : (new : ℕ) → 1 ≤ new → new < t .lent .step → t .lent .step ≤ 6 → Better (view t cs gs) (view (termsLentStep t new) cs gs)
+  pub lent-step : (new : ℕ) → 1 ≤ new → new < t .lent .step → t .lent .step ≤ 6 → Better (view t cs gs) (view (changedTerms lentStepPlace new t) cs gs)
   lent-step new one less six = Better.better-terms (BetterTerms.smaller-lent-step {t = t} new (omega arith))
 
   -- "a smaller interval"
-  pub interval : (new : ℕ) → new < t .interval → Better (view t cs gs) (view (termsInterval t new) cs gs)
+  pub interval : (new : ℕ) → new < t .interval → Better (view t cs gs) (view (changedTerms intervalPlace new t) cs gs)
   interval new h = Better.better-terms (BetterTerms.smaller-interval {t = t} new (omega arith))
 
 -- one betterment from a deal to any accepted record with the fields and items proposed, however it holds them

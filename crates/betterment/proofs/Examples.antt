@@ -15,9 +15,9 @@ use Rattle.deal.specs.declared.guarantee.Guarantee.{Guarantee}
 use Rattle.deal.specs.declared.deal.Deal.{Deal}
 use Rattle.relief.proofs.Computed.{computed}
 use Rattle.relief.specs.Report.{reportOf}
-use Rattle.betterment.specs.Changes.{collateralAmount, collateralStep, collateralCurrency, collateralResidual, collateralOriginal, collateralLawful, collateralUnrelated, collateralNotInRating, guaranteeAmount, guaranteeStep, guaranteeCurrency, guaranteeResidual, guaranteeOriginal, guaranteeLawful, guaranteeDirect, guaranteeNotInRating, termsInterval}
+use Rattle.betterment.specs.Places.{changedCollateral, changedGuarantee, changedTerms, intervalPlace}
 use Rattle.deal.specs.Views.{View, viewOf, acceptedView, recordOf}
-use Rattle.betterment.specs.Betterments.{BetterCollateral, BetterGuarantee, BetterTerms, OneChanged, OneMore, Better, Betterments}
+use Rattle.betterment.specs.Betterments.{OneOf, BetterItem, BetterCollateral, BetterGuarantee, BetterTerms, OneChanged, OneMore, Better, Betterments}
 use Rattle.betterment.proofs.Theorem.{betterments-never-raise}
 
 -- the first deal of 01, The book: a loan of 1,000,000, sovereign debt of 400,000 and a sovereign's guarantee of 200,000
@@ -93,33 +93,33 @@ of-terms {t} {t′} b = record { old = deal t (debt ∷ []) []; new = deal t′ 
 
 abbrev cases : List Case
 cases =
-    of-collateral (BetterCollateral.higher-amount {c = collateralAmount debt 100000} 400000 (omega arith))
-    ++ of-collateral (BetterCollateral.higher-residual {c = collateralResidual debt 900} 1800 (omega arith))
+    of-collateral (BetterItem.higher {x = changedCollateral 0 100000 debt} OneOf.here 400000 (omega arith))
+    ++ of-collateral (BetterItem.higher {x = changedCollateral 5 900 debt} (OneOf.later OneOf.here) 1800 (omega arith))
     -- 25, "mismatch with original term under 360", no longer
-    ++ of-collateral (BetterCollateral.higher-original {c = collateralOriginal (collateralResidual debt 300) 359} 360 (omega arith))
-    ++ of-collateral (BetterCollateral.smaller-step {c = collateralStep debt 3} 1 (omega arith))
-    ++ of-collateral (BetterCollateral.deal-currency {c = collateralCurrency debt 840})
-    ++ of-collateral (BetterCollateral.now-lawful {c = collateralLawful debt 0} refl)
-    ++ of-collateral (BetterCollateral.now-unrelated {c = collateralUnrelated debt 0} refl)
-    ++ of-collateral (BetterCollateral.now-not-in-rating {c = collateralNotInRating debt 0} refl)
+    ++ of-collateral (BetterItem.higher {x = changedCollateral 6 359 (changedCollateral 5 300 debt)} (OneOf.later (OneOf.later OneOf.here)) 360 (omega arith))
+    ++ of-collateral (BetterItem.smaller-step {x = changedCollateral 2 3 debt} OneOf.here 1 (omega arith))
+    ++ of-collateral (BetterItem.deal-currency {x = changedCollateral 4 840 debt} OneOf.here)
+    ++ of-collateral (BetterItem.now-met {x = changedCollateral 7 0 debt} OneOf.here refl)
+    ++ of-collateral (BetterItem.now-met {x = changedCollateral 8 0 debt} (OneOf.later OneOf.here) refl)
+    ++ of-collateral (BetterItem.now-met {x = changedCollateral 9 0 debt} (OneOf.later (OneOf.later OneOf.here)) refl)
     -- bank debt, unrated
-    ++ of-collateral (BetterCollateral.now-listed {c = pledge 4 0} refl)
-    ++ of-guarantee (BetterGuarantee.higher-amount {g = guaranteeAmount backing 100000} 200000 (omega arith))
-    ++ of-guarantee (BetterGuarantee.higher-residual {g = guaranteeResidual backing 900} 1800 (omega arith))
-    ++ of-guarantee (BetterGuarantee.higher-original {g = guaranteeOriginal (guaranteeResidual backing 300) 359} 360 (omega arith))
-    ++ of-guarantee (BetterGuarantee.smaller-step {g = guaranteeStep backing 3} 2 (omega arith))
-    ++ of-guarantee (BetterGuarantee.deal-currency {g = guaranteeCurrency backing 840})
-    ++ of-guarantee (BetterGuarantee.now-lawful {g = guaranteeLawful backing 0} refl)
-    ++ of-guarantee (BetterGuarantee.now-direct {g = guaranteeDirect backing 0} refl)
-    ++ of-guarantee (BetterGuarantee.now-not-in-rating {g = guaranteeNotInRating backing 0} refl)
+    ++ of-collateral (BetterItem.now-met {x = pledge 4 0} (OneOf.later (OneOf.later (OneOf.later OneOf.here))) refl)
+    ++ of-guarantee (BetterItem.higher {x = changedGuarantee 0 100000 backing} OneOf.here 200000 (omega arith))
+    ++ of-guarantee (BetterItem.higher {x = changedGuarantee 4 900 backing} (OneOf.later OneOf.here) 1800 (omega arith))
+    ++ of-guarantee (BetterItem.higher {x = changedGuarantee 5 359 (changedGuarantee 4 300 backing)} (OneOf.later (OneOf.later OneOf.here)) 360 (omega arith))
+    ++ of-guarantee (BetterItem.smaller-step {x = changedGuarantee 2 3 backing} OneOf.here 2 (omega arith))
+    ++ of-guarantee (BetterItem.deal-currency {x = changedGuarantee 3 840 backing} OneOf.here)
+    ++ of-guarantee (BetterItem.now-met {x = changedGuarantee 6 0 backing} OneOf.here refl)
+    ++ of-guarantee (BetterItem.now-met {x = changedGuarantee 7 0 backing} (OneOf.later OneOf.here) refl)
+    ++ of-guarantee (BetterItem.now-met {x = changedGuarantee 8 0 backing} (OneOf.later (OneOf.later OneOf.here)) refl)
     -- sovereign debt lent under a repo
     ++ of-terms (BetterTerms.smaller-lent-step {t = termsIn (1000000 ∷ 3 ∷ 0 ∷ 978 ∷ 1 ∷ 1 ∷ 1800 ∷ 2 ∷ 4 ∷ 720 ∷ [])} 1 (omega arith))
-    ++ of-terms (BetterTerms.smaller-interval {t = termsInterval loan 250} 1 (omega arith))
+    ++ of-terms (BetterTerms.smaller-interval {t = changedTerms intervalPlace 250 loan} 1 (omega arith))
     -- one more item, in front of another and behind it
     ++ record { old = deal loan (debt ∷ []) []; new = deal loan (pledge 2 3 ∷ debt ∷ []) []; better = Better.more-collateral OneMore.here }
     ∷ record { old = deal loan (debt ∷ []) []; new = deal loan (debt ∷ pledge 2 3 ∷ []) []; better = Better.more-collateral (OneMore.later OneMore.here) }
-    ∷ record { old = deal loan [] (backing ∷ []); new = deal loan [] (guaranteeStep backing 2 ∷ backing ∷ []); better = Better.more-guarantees OneMore.here }
-    ∷ record { old = deal loan [] (backing ∷ []); new = deal loan [] (backing ∷ guaranteeStep backing 2 ∷ []); better = Better.more-guarantees (OneMore.later OneMore.here) }
+    ∷ record { old = deal loan [] (backing ∷ []); new = deal loan [] (changedGuarantee 2 2 backing ∷ backing ∷ []); better = Better.more-guarantees OneMore.here }
+    ∷ record { old = deal loan [] (backing ∷ []); new = deal loan [] (backing ∷ changedGuarantee 2 2 backing ∷ []); better = Better.more-guarantees (OneMore.later OneMore.here) }
     ∷ []
 
 -- EACH KIND OF BETTERMENT, AND EACH PLACE OF IT, CAN LOWER THE REPORTED AMOUNT
@@ -130,19 +130,19 @@ each-lowers = refl
 -- A list of betterments. The loan with sixteen pieces of the debt; a seventeenth is refused, and a residual term above the original;
 -- a higher amount and a guarantee are not
 abbrev piece : Collateral
-piece = collateralAmount debt 10000
+piece = changedCollateral 0 10000 debt
 
 abbrev start : Deal
 start = deal loan (replicate 16 piece) []
 
 abbrev after : List Collateral
-after = collateralAmount debt 50000 ∷ replicate 15 piece
+after = changedCollateral 0 50000 debt ∷ replicate 15 piece
 
 abbrev seventeen : View
 seventeen = record { terms = loan; collateral = piece ∷ replicate 16 piece; guarantees = [] }
 
 abbrev overlong : View
-overlong = record { terms = loan; collateral = collateralResidual piece 1801 ∷ replicate 15 piece; guarantees = [] }
+overlong = record { terms = loan; collateral = changedCollateral 5 1801 piece ∷ replicate 15 piece; guarantees = [] }
 
 start-accepted : accepted start ≡ true
 unfolding amount
@@ -152,8 +152,8 @@ some-refused : Betterments start (deal loan after (backing ∷ []))
 unfolding amount acceptedView
 some-refused =
     Betterments.refused seventeen (Better.more-collateral OneMore.here) refl
-    (Betterments.refused overlong (Better.better-collateral (OneChanged.here (BetterCollateral.higher-residual {c = piece} 1801 (omega arith)))) refl
-    (Betterments.made {d′ = deal loan after []} (Better.better-collateral (OneChanged.here (BetterCollateral.higher-amount {c = piece} 50000 (omega arith)))) refl
+    (Betterments.refused overlong (Better.better-collateral (OneChanged.here (BetterItem.higher {x = piece} (OneOf.later OneOf.here) 1801 (omega arith)))) refl
+    (Betterments.made {d′ = deal loan after []} (Better.better-collateral (OneChanged.here (BetterItem.higher {x = piece} OneOf.here 50000 (omega arith)))) refl
     (Betterments.made {d′ = deal loan after (backing ∷ [])} (Better.more-guarantees OneMore.here) refl
     Betterments.no-more)))
 

@@ -1,11 +1,12 @@
 -- One betterment: nothing got worse, so the weighted amount is no higher. Assumes nothing.
-use Prim.Native.Nat.{ℕ, _≤_}
+use Prim.Native.Nat.{ℕ, _≤_, _<_}
 use mathlib.Core.Path.{_≡_, refl}
 use mathlib.Core.Bool.{Bool, true}
 use mathlib.Core.List.{List, [], _∷_}
 use mathlib.Core.Logic.{inl, inr}
 use native.Mathlib.Omega.{arith}
 use borrow.Author.Tests.{eqb-true}
+use lib.ListN.{getD}
 use Rattle.base.specs.All.{allPass}
 use Rattle.base.proofs.Every.{both}
 use Rattle.tables.specs.Table.{Table, TableLaws}
@@ -16,13 +17,24 @@ use Rattle.deal.specs.declared.guarantee.Guarantee.{Guarantee}
 use Rattle.relief.specs.Exposure.{riskWeightedAmountOf}
 use Rattle.relief.proofs.NoWorse.{SameOrBetter, SameOrDeals, NoLowerCollateral, NoLowerGuarantee, NoWorseTerms, NoWorseCollateral, NoWorseGuarantee, NoLess, none, kept, more}
 use Rattle.relief.proofs.Amounts.{amount-no-higher}
+use Rattle.deal.specs.Fields.{collateralFields, guaranteeFields}
 use Rattle.deal.specs.Views.{View, acceptedView}
-use Rattle.betterment.specs.Betterments.{SmallerStep, BetterCollateral, BetterGuarantee, BetterTerms, OneChanged, OneMore, Better}
+use Rattle.betterment.specs.Betterments.{SmallerStep, OneOf, BetterItem, BetterCollateral, BetterGuarantee, BetterTerms, OneChanged, OneMore, Better}
+use Rattle.betterment.specs.Places.{changedCollateral, changedGuarantee}
 use Rattle.deal.proofs.Views.{FitsView, view-fits, collateralFits, guaranteeFits}
 
 -- a smaller step is a better one
 smaller : {old new : ℕ} → SmallerStep old new → SameOrBetter old new
 smaller s = inr (omega arith)
+
+-- what holds at each of some places holds at one of them
+abbrev Each : (ℕ → Type 0) → List ℕ → Type 0
+Each P [] = Unit {0}
+Each P (k ∷ places) = P k × Each P places
+
+each-of : (P : ℕ → Type 0) {place : ℕ} {places : List ℕ} → Each P places → OneOf place places → P place
+each-of P e OneOf.here = e .0
+each-of P e (OneOf.later o) = each-of P (e .1) o
 
 -- Terms
 
@@ -44,15 +56,18 @@ module _ {currency : ℕ} where
   same-collateral p = no-worse-collateral p p (omega arith) (inl refl) (inl refl)
 
   changed-collateral : {c c′ : Collateral} → BetterCollateral currency c c′ → PlainCollateral c → PlainCollateral c′ → NoWorseCollateral currency c c′
-  changed-collateral (BetterCollateral.higher-amount new h) p p′ = no-worse-collateral p p′ (omega arith) (inl refl) (inl refl)
-  changed-collateral (BetterCollateral.higher-residual new h) p p′ = no-worse-collateral p p′ (omega arith) (inl refl) (inl refl)
-  changed-collateral (BetterCollateral.higher-original new h) p p′ = no-worse-collateral p p′ (omega arith) (inl refl) (inl refl)
-  changed-collateral (BetterCollateral.smaller-step new s) p p′ = no-worse-collateral p p′ (omega arith) (smaller s) (inl refl)
-  changed-collateral BetterCollateral.deal-currency p p′ = no-worse-collateral p p′ (omega arith) (inl refl) (inr refl)
-  changed-collateral (BetterCollateral.now-lawful e) p p′ = no-worse-collateral p p′ (omega arith) (inl refl) (inl refl)
-  changed-collateral (BetterCollateral.now-unrelated e) p p′ = no-worse-collateral p p′ (omega arith) (inl refl) (inl refl)
-  changed-collateral (BetterCollateral.now-not-in-rating e) p p′ = no-worse-collateral p p′ (omega arith) (inl refl) (inl refl)
-  changed-collateral (BetterCollateral.now-listed e) p p′ = no-worse-collateral p p′ (omega arith) (inl refl) (inl refl)
+  changed-collateral {c} (BetterItem.higher m new h) p p′ =
+      each-of (λ k. getD (collateralFields c) k 0 < new → PlainCollateral (changedCollateral k new c) → NoWorseCollateral currency c (changedCollateral k new c))
+      ((λ h q. no-worse-collateral p q (omega arith) (inl refl) (inl refl)), ((λ h q. no-worse-collateral p q (omega arith) (inl refl) (inl refl)), ((λ h q. no-worse-collateral p q (omega arith) (inl refl) (inl refl)), tt))) m h p′
+  changed-collateral {c} (BetterItem.smaller-step m new s) p p′ =
+      each-of (λ k. SmallerStep (getD (collateralFields c) k 0) new → PlainCollateral (changedCollateral k new c) → NoWorseCollateral currency c (changedCollateral k new c))
+      ((λ h q. no-worse-collateral p q (omega arith) (smaller h) (inl refl)), tt) m s p′
+  changed-collateral {c} (BetterItem.deal-currency m) p p′ =
+      each-of (λ k. PlainCollateral (changedCollateral k currency c) → NoWorseCollateral currency c (changedCollateral k currency c))
+      ((λ q. no-worse-collateral p q (omega arith) (inl refl) (inr refl)), tt) m p′
+  changed-collateral {c} (BetterItem.now-met m e) p p′ =
+      each-of (λ k. getD (collateralFields c) k 0 ≡ 0 → PlainCollateral (changedCollateral k 1 c) → NoWorseCollateral currency c (changedCollateral k 1 c))
+      ((λ h q. no-worse-collateral p q (omega arith) (inl refl) (inl refl)), ((λ h q. no-worse-collateral p q (omega arith) (inl refl) (inl refl)), ((λ h q. no-worse-collateral p q (omega arith) (inl refl) (inl refl)), ((λ h q. no-worse-collateral p q (omega arith) (inl refl) (inl refl)), tt)))) m e p′
 
   no-worse-guarantee : {g g′ : Guarantee} → PlainGuarantee g → PlainGuarantee g′ → NoLowerGuarantee g g′ → SameOrBetter (g .provider .step) (g′ .provider .step) →
       SameOrDeals currency (g .currency) (g′ .currency) → NoWorseGuarantee currency g g′
@@ -62,14 +77,18 @@ module _ {currency : ℕ} where
   same-guarantee p = no-worse-guarantee p p (omega arith) (inl refl) (inl refl)
 
   changed-guarantee : {g g′ : Guarantee} → BetterGuarantee currency g g′ → PlainGuarantee g → PlainGuarantee g′ → NoWorseGuarantee currency g g′
-  changed-guarantee (BetterGuarantee.higher-amount new h) p p′ = no-worse-guarantee p p′ (omega arith) (inl refl) (inl refl)
-  changed-guarantee (BetterGuarantee.higher-residual new h) p p′ = no-worse-guarantee p p′ (omega arith) (inl refl) (inl refl)
-  changed-guarantee (BetterGuarantee.higher-original new h) p p′ = no-worse-guarantee p p′ (omega arith) (inl refl) (inl refl)
-  changed-guarantee (BetterGuarantee.smaller-step new s) p p′ = no-worse-guarantee p p′ (omega arith) (smaller s) (inl refl)
-  changed-guarantee BetterGuarantee.deal-currency p p′ = no-worse-guarantee p p′ (omega arith) (inl refl) (inr refl)
-  changed-guarantee (BetterGuarantee.now-lawful e) p p′ = no-worse-guarantee p p′ (omega arith) (inl refl) (inl refl)
-  changed-guarantee (BetterGuarantee.now-direct e) p p′ = no-worse-guarantee p p′ (omega arith) (inl refl) (inl refl)
-  changed-guarantee (BetterGuarantee.now-not-in-rating e) p p′ = no-worse-guarantee p p′ (omega arith) (inl refl) (inl refl)
+  changed-guarantee {g} (BetterItem.higher m new h) p p′ =
+      each-of (λ k. getD (guaranteeFields g) k 0 < new → PlainGuarantee (changedGuarantee k new g) → NoWorseGuarantee currency g (changedGuarantee k new g))
+      ((λ h q. no-worse-guarantee p q (omega arith) (inl refl) (inl refl)), ((λ h q. no-worse-guarantee p q (omega arith) (inl refl) (inl refl)), ((λ h q. no-worse-guarantee p q (omega arith) (inl refl) (inl refl)), tt))) m h p′
+  changed-guarantee {g} (BetterItem.smaller-step m new s) p p′ =
+      each-of (λ k. SmallerStep (getD (guaranteeFields g) k 0) new → PlainGuarantee (changedGuarantee k new g) → NoWorseGuarantee currency g (changedGuarantee k new g))
+      ((λ h q. no-worse-guarantee p q (omega arith) (smaller h) (inl refl)), tt) m s p′
+  changed-guarantee {g} (BetterItem.deal-currency m) p p′ =
+      each-of (λ k. PlainGuarantee (changedGuarantee k currency g) → NoWorseGuarantee currency g (changedGuarantee k currency g))
+      ((λ q. no-worse-guarantee p q (omega arith) (inl refl) (inr refl)), tt) m p′
+  changed-guarantee {g} (BetterItem.now-met m e) p p′ =
+      each-of (λ k. getD (guaranteeFields g) k 0 ≡ 0 → PlainGuarantee (changedGuarantee k 1 g) → NoWorseGuarantee currency g (changedGuarantee k 1 g))
+      ((λ h q. no-worse-guarantee p q (omega arith) (inl refl) (inl refl)), ((λ h q. no-worse-guarantee p q (omega arith) (inl refl) (inl refl)), ((λ h q. no-worse-guarantee p q (omega arith) (inl refl) (inl refl)), tt))) m e p′
 
 -- Lists of items that pass a test
 

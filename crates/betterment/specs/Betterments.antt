@@ -3,48 +3,49 @@ use Prim.Native.Nat.{ℕ, _≤_, _<_}
 use mathlib.Core.Path.{_≡_}
 use mathlib.Core.Bool.{true, false}
 use mathlib.Core.List.{List, _∷_}
+use lib.ListN.{getD}
 use Rattle.tables.specs.Table.{Table}
+use Rattle.deal.specs.Fields.{collateralFields, collateralIn, guaranteeFields, guaranteeIn}
 use Rattle.deal.specs.Records.{accepted, withoutProtection}
 use Rattle.deal.specs.declared.terms.Terms.{Terms}
 use Rattle.deal.specs.declared.collateral.Collateral.{Collateral}
 use Rattle.deal.specs.declared.guarantee.Guarantee.{Guarantee}
 use Rattle.deal.specs.declared.deal.Deal.{Deal}
 use Rattle.relief.specs.Report.{reportUnder, reportOf}
-use Rattle.betterment.specs.Changes.{collateralAmount, collateralStep, collateralCurrency, collateralResidual, collateralOriginal, collateralLawful, collateralUnrelated, collateralNotInRating, collateralListed, guaranteeAmount, guaranteeStep, guaranteeCurrency, guaranteeResidual, guaranteeOriginal, guaranteeLawful, guaranteeDirect, guaranteeNotInRating, termsInterval, termsLentStep}
+use Rattle.betterment.specs.Places.{Places, changed, changedTerms, collateralPlaces, guaranteePlaces, intervalPlace, lentStepPlace}
 use Rattle.deal.specs.Views.{View, viewOf, acceptedView}
 
 -- "a smaller step, old and new both 1 to 6"
 abbrev pub SmallerStep : ℕ → ℕ → Type 0
 SmallerStep old new = (1 ≤ new) × ((new < old) × (old ≤ 6))
 
--- of collateral under a deal in this currency: "a higher amount, residual term or original term of an item"; "a smaller step"; "an item's
--- currency made the deal's" (or it is so already); "an item's condition from 0 to 1"
-pub data BetterCollateral (currency : ℕ) : Collateral → Collateral → Type 0 where
-  higher-amount : {c : Collateral} (new : ℕ) → c .amount < new → BetterCollateral currency c (collateralAmount c new)
-  higher-residual : {c : Collateral} (new : ℕ) → c .residual < new → BetterCollateral currency c (collateralResidual c new)
-  higher-original : {c : Collateral} (new : ℕ) → c .original < new → BetterCollateral currency c (collateralOriginal c new)
-  smaller-step : {c : Collateral} (new : ℕ) → SmallerStep (c .asset .step) new → BetterCollateral currency c (collateralStep c new)
-  deal-currency : {c : Collateral} → BetterCollateral currency c (collateralCurrency c currency)
-  now-lawful : {c : Collateral} → c .lawful ≡ 0 → BetterCollateral currency c (collateralLawful c 1)
-  now-unrelated : {c : Collateral} → c .unrelated ≡ 0 → BetterCollateral currency c (collateralUnrelated c 1)
-  now-not-in-rating : {c : Collateral} → c .«not_in_rating» ≡ 0 → BetterCollateral currency c (collateralNotInRating c 1)
-  now-listed : {c : Collateral} → c .listed ≡ 0 → BetterCollateral currency c (collateralListed c 1)
+-- one of these places
+pub data OneOf (place : ℕ) : List ℕ → Type 0 where
+  here : {places : List ℕ} → OneOf place (place ∷ places)
+  later : {other : ℕ} {places : List ℕ} → OneOf place places → OneOf place (other ∷ places)
 
--- of a guarantee
-pub data BetterGuarantee (currency : ℕ) : Guarantee → Guarantee → Type 0 where
-  higher-amount : {g : Guarantee} (new : ℕ) → g .amount < new → BetterGuarantee currency g (guaranteeAmount g new)
-  higher-residual : {g : Guarantee} (new : ℕ) → g .residual < new → BetterGuarantee currency g (guaranteeResidual g new)
-  higher-original : {g : Guarantee} (new : ℕ) → g .original < new → BetterGuarantee currency g (guaranteeOriginal g new)
-  smaller-step : {g : Guarantee} (new : ℕ) → SmallerStep (g .provider .step) new → BetterGuarantee currency g (guaranteeStep g new)
-  deal-currency : {g : Guarantee} → BetterGuarantee currency g (guaranteeCurrency g currency)
-  now-lawful : {g : Guarantee} → g .lawful ≡ 0 → BetterGuarantee currency g (guaranteeLawful g 1)
-  now-direct : {g : Guarantee} → g .direct ≡ 0 → BetterGuarantee currency g (guaranteeDirect g 1)
-  now-not-in-rating : {g : Guarantee} → g .«not_in_rating» ≡ 0 → BetterGuarantee currency g (guaranteeNotInRating g 1)
+-- of an item under a deal in this currency: "a higher amount, residual term or original term of an item; .. a smaller step, old and new
+-- both 1 to 6, of an item ..; an item's currency made the deal's" (or it is so already); "an item's condition from 0 to 1"
+pub data BetterItem {A : Type 0} (numbers : A → List ℕ) (read : List ℕ → A) (places : Places) (currency : ℕ) : A → A → Type 0 where
+  higher : {x : A} {place : ℕ} → OneOf place (places .higher) → (new : ℕ) → getD (numbers x) place 0 < new →
+      BetterItem numbers read places currency x (changed numbers read place new x)
+  smaller-step : {x : A} {place : ℕ} → OneOf place (places .steps) → (new : ℕ) → SmallerStep (getD (numbers x) place 0) new →
+      BetterItem numbers read places currency x (changed numbers read place new x)
+  deal-currency : {x : A} {place : ℕ} → OneOf place (places .currencies) →
+      BetterItem numbers read places currency x (changed numbers read place currency x)
+  now-met : {x : A} {place : ℕ} → OneOf place (places .conditions) → getD (numbers x) place 0 ≡ 0 →
+      BetterItem numbers read places currency x (changed numbers read place 1 x)
+
+abbrev pub BetterCollateral : ℕ → Collateral → Collateral → Type 0
+BetterCollateral = BetterItem collateralFields collateralIn collateralPlaces
+
+abbrev pub BetterGuarantee : ℕ → Guarantee → Guarantee → Type 0
+BetterGuarantee = BetterItem guaranteeFields guaranteeIn guaranteePlaces
 
 -- "a smaller step .. of the goods lent"; "a smaller interval"
 pub data BetterTerms : Terms → Terms → Type 0 where
-  smaller-lent-step : {t : Terms} (new : ℕ) → SmallerStep (t .lent .step) new → BetterTerms t (termsLentStep t new)
-  smaller-interval : {t : Terms} (new : ℕ) → new < t .interval → BetterTerms t (termsInterval t new)
+  smaller-lent-step : {t : Terms} (new : ℕ) → SmallerStep (t .lent .step) new → BetterTerms t (changedTerms lentStepPlace new t)
+  smaller-interval : {t : Terms} (new : ℕ) → new < t .interval → BetterTerms t (changedTerms intervalPlace new t)
 
 -- one item of a list changed, wherever it stands
 pub data OneChanged {A : Type 0} (Change : A → A → Type 0) : List A → List A → Type 0 where

@@ -1,2 +1,2 @@
 pub mod Betterments
-pub mod Changes
+pub mod Places

@@ -19,25 +19,19 @@ as-read [] = refl
 as-read (n ∷ ns) = ap (λ (l : List ℕ). n ∷ l) (as-read ns)
 
 pub terms-back : (t : Terms) → termsIn (termsFields t) ≡ t
-unfolding termsFields
 terms-back t = refl
 
 pub terms-forth : (ns : List ℕ) → length ns ≡ termsWidth → termsFields (termsIn ns) ≡ ns
-unfolding termsFields
 terms-forth ns e = rw e at (as-read ns)
 
 pub collateral-back : (c : Collateral) → collateralIn (collateralFields c) ≡ c
-unfolding collateralFields
 collateral-back c = refl
 
 pub collateral-forth : (ns : List ℕ) → length ns ≡ collateralWidth → collateralFields (collateralIn ns) ≡ ns
-unfolding collateralFields
 collateral-forth ns e = rw e at (as-read ns)
 
 pub guarantee-back : (g : Guarantee) → guaranteeIn (guaranteeFields g) ≡ g
-unfolding guaranteeFields
 guarantee-back g = refl
 
 pub guarantee-forth : (ns : List ℕ) → length ns ≡ guaranteeWidth → guaranteeFields (guaranteeIn ns) ≡ ns
-unfolding guaranteeFields
 guarantee-forth ns e = rw e at (as-read ns)

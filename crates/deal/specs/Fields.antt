@@ -32,7 +32,7 @@ termsIn fields =
       lent = record { goods = field 7; step = field 8; life = field 9 };
     }
 
-unfoldable pub termsFields : Terms → List ℕ
+abbrev pub termsFields : Terms → List ℕ
 termsFields t =
     t .amount
     ∷ t .counterparty .class
@@ -63,7 +63,7 @@ collateralIn fields =
       listed = field 10;
     }
 
-unfoldable pub collateralFields : Collateral → List ℕ
+abbrev pub collateralFields : Collateral → List ℕ
 collateralFields c =
     c .amount
     ∷ c .asset .goods
@@ -94,7 +94,7 @@ guaranteeIn fields =
       «not_in_rating» = field 8;
     }
 
-unfoldable pub guaranteeFields : Guarantee → List ℕ
+abbrev pub guaranteeFields : Guarantee → List ℕ
 guaranteeFields g =
     g .amount
     ∷ g .provider .class

@@ -3,9 +3,9 @@ ghost use mathlib.Core.Path.{_≡_};
 ghost use Rattle.deal.specs.Terms.{termsRefusal};
 ghost use Rattle.relief.specs.Working.{BothTimeFactors, TimeFactorsOf};
 use deal::terms::Terms;
+use scaling::factor::TimeFactor;
 use scaling::period::guarantee_period;
 use scaling::period::holding_period;
-use scaling::factor::TimeFactor;
 
 pub struct TimeFactors {
     // Of collateral and of the goods lent.
