@@ -1,5 +1,5 @@
 /* The proved library with one number spoiled, chosen by HADLEPHOGA_FAULT. The
- * exact calls are the library's own two, renamed by differential/faults. */
+ * exact calls are the library's own, renamed by differential/faults. */
 #include <stddef.h>
 #include <stdint.h>
 #include <stdlib.h>
@@ -10,6 +10,12 @@
 uint64_t exact_answer_book(const uint8_t *book, size_t book_length,
                            uint64_t *results, size_t results_length,
                            uint64_t *deals);
+uint64_t exact_open_deal(const uint64_t *terms, size_t terms_length,
+                         uint64_t *record, size_t record_length);
+uint64_t exact_add_collateral(uint64_t *record, size_t record_length,
+                              const uint64_t *item, size_t item_length);
+uint64_t exact_add_guarantee(uint64_t *record, size_t record_length,
+                             const uint64_t *item, size_t item_length);
 uint64_t exact_report_deal(const uint64_t *record, size_t record_length,
                            uint64_t *report, size_t report_length);
 
@@ -85,9 +91,87 @@ uint64_t hadlephoga_answer_book(const uint8_t *book, size_t book_length,
   return 0;
 }
 
+uint64_t hadlephoga_open_deal(const uint64_t *terms, size_t terms_length,
+                              uint64_t *record, size_t record_length)
+{
+  uint64_t refusal = exact_open_deal(terms, terms_length, record, record_length);
+
+  if (fault("open-behind-list"))
+    record[record_length] = 0;
+  if (refusal == 13)
+    return fault("open-short") ? 11 : 13;
+  if (fault("open-behind-record") && record_length > HADLEPHOGA_RECORD_LENGTH)
+    record[HADLEPHOGA_RECORD_LENGTH] = 0;
+  if (refusal != 0) {
+    if (fault("open-refused-list"))
+      record[HADLEPHOGA_TERMS_WIDTH] = 1;
+    if (refusal == 11)
+      return fault("open-fields") ? 5 : 11;
+    return fault("open-refusal") && refusal == 4 ? 5 : refusal;
+  }
+  if (fault("open-terms"))
+    lower(&record[HADLEPHOGA_TERMS_WIDTH - 1]);
+  if (fault("open-lists"))
+    record[HADLEPHOGA_RECORD_LENGTH - 1] = 1;
+  return 0;
+}
+
+/* A fault of one list. */
+static int fault_of(const char *list, const char *name)
+{
+  const char *chosen = getenv("HADLEPHOGA_FAULT");
+  size_t length = strlen(list);
+
+  return chosen != NULL && strncmp(chosen, list, length) == 0 && strcmp(chosen + length, name) == 0;
+}
+
+/* What adding answered and left, with the place of the list's count. */
+static uint64_t added(const char *list, uint64_t refusal, uint64_t *record, size_t record_length,
+                      size_t count, size_t width)
+{
+  if (fault_of(list, "-behind-list"))
+    record[record_length] = 0;
+  if (refusal != 0) {
+    if (fault_of(list, "-refused-record") && record_length > 0)
+      record[record_length - 1] += 1;
+    if (refusal == 11)
+      return fault_of(list, "-fields") ? 40 : 11;
+    if (refusal == 40)
+      return fault_of(list, "-record") ? 6 : 40;
+    if (refusal == 6)
+      return fault_of(list, "-full") ? 40 : 6;
+    return fault_of(list, "-refusal") && refusal == 7 ? 8 : refusal;
+  }
+  if (fault_of(list, "-item"))
+    record[count + record[count] * width] ^= 1;
+  if (fault_of(list, "-count"))
+    record[count] -= 1;
+  return 0;
+}
+
+uint64_t hadlephoga_add_collateral(uint64_t *record, size_t record_length,
+                                   const uint64_t *item, size_t item_length)
+{
+  uint64_t refusal = exact_add_collateral(record, record_length, item, item_length);
+
+  return added("collateral", refusal, record, record_length, HADLEPHOGA_TERMS_WIDTH, HADLEPHOGA_COLLATERAL_WIDTH);
+}
+
+uint64_t hadlephoga_add_guarantee(uint64_t *record, size_t record_length,
+                                  const uint64_t *item, size_t item_length)
+{
+  uint64_t refusal = exact_add_guarantee(record, record_length, item, item_length);
+
+  return added("guarantee", refusal, record, record_length,
+               HADLEPHOGA_RECORD_LENGTH - HADLEPHOGA_ITEMS * HADLEPHOGA_GUARANTEE_WIDTH - 1,
+               HADLEPHOGA_GUARANTEE_WIDTH);
+}
+
 uint64_t hadlephoga_report_deal(const uint64_t *record, size_t record_length,
                                 uint64_t *report, size_t report_length)
 {
+  uint64_t *collateral = report + 1;
+  uint64_t *guarantees = collateral + HADLEPHOGA_ITEMS * HADLEPHOGA_OUTCOME_WIDTH;
   uint64_t refusal = exact_report_deal(record, record_length, report, report_length);
 
   if (refusal == 13)
@@ -100,19 +184,19 @@ uint64_t hadlephoga_report_deal(const uint64_t *record, size_t record_length,
   if (fault("report-exposure"))
     lower(&report[0]);
   if (fault("report-collateral-value"))
-    lower_last(report + 1, 2);
+    lower_last(collateral, HADLEPHOGA_OUTCOME_WIDTH);
   if (fault("report-collateral-ground"))
-    lower_last(report + 2, 2);
+    lower_last(collateral + 1, HADLEPHOGA_OUTCOME_WIDTH);
   if (fault("report-guarantee-value"))
-    lower_last(report + 33, 3);
+    lower_last(guarantees, HADLEPHOGA_COVER_WIDTH);
   if (fault("report-guarantee-ground"))
-    lower_last(report + 34, 3);
+    lower_last(guarantees + 1, HADLEPHOGA_COVER_WIDTH);
   if (fault("report-portion"))
-    lower_last(report + 35, 3);
+    lower_last(guarantees + 2, HADLEPHOGA_COVER_WIDTH);
   if (fault("report-rest"))
-    lower(&report[81]);
+    lower(&report[HADLEPHOGA_REPORT_LENGTH - 2]);
   if (fault("report-weighted-amount"))
-    lower(&report[82]);
+    lower(&report[HADLEPHOGA_REPORT_LENGTH - 1]);
   if (fault("report-behind-report") && report_length > HADLEPHOGA_REPORT_LENGTH)
     report[HADLEPHOGA_REPORT_LENGTH] = 0;
   if (fault("report-behind-list"))

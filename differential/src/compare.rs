@@ -2,10 +2,13 @@
 
 use std::fmt::Debug;
 
-use hadlephoga::{BookReply, Record, Report, RECORD_LENGTH, REPORT_LENGTH};
+use hadlephoga::{
+    BookReply, Record, Report, COVER_WIDTH, ITEMS, OUTCOME_WIDTH, RECORD_LENGTH, REPORT_LENGTH,
+};
 use reference::DealRead;
 
 use crate::line::{count_deals, lines, opens_deal, HEADER};
+use crate::operations;
 use crate::random::Random;
 use crate::records::{fill_past_counts, without_garbage};
 use crate::sides::{from_reference, reference_report, Side};
@@ -20,7 +23,7 @@ pub struct Difference {
     pub reference: String,
 }
 
-fn differ(about: &str, deal: String, proved: impl Debug, reference: impl Debug) -> Difference {
+pub fn differ(about: &str, deal: String, proved: impl Debug, reference: impl Debug) -> Difference {
     Difference {
         about: about.to_string(),
         deal,
@@ -31,21 +34,21 @@ fn differ(about: &str, deal: String, proved: impl Debug, reference: impl Debug) 
 
 /// A list to be lent, between two margins; each of its numbers is a mark that
 /// no answer gives.
-struct Lent {
-    numbers: Vec<u64>,
+pub struct Lent {
+    pub numbers: Vec<u64>,
 }
 
 const MARGIN: usize = 8;
 
 impl Lent {
-    fn new(length: usize) -> Self {
+    pub fn new(length: usize) -> Self {
         let numbers = (0..length + 2 * MARGIN).map(|place| !(place as u64 * 0x0101_0101));
         Lent {
             numbers: numbers.collect(),
         }
     }
 
-    fn list(&mut self) -> &mut [u64] {
+    pub fn list(&mut self) -> &mut [u64] {
         let end = self.numbers.len() - MARGIN;
         &mut self.numbers[MARGIN..end]
     }
@@ -148,6 +151,9 @@ fn reports(
                     difference
                 };
                 let numbers = record.to_numbers();
+                if random.percent(5) {
+                    operations::built(&record, tally).map_err(in_book)?;
+                }
                 let (_, report) = report(random, &numbers, tally).map_err(in_book)?;
                 if random.percent(20) {
                     fill_past_counts(random, &mut record);
@@ -225,18 +231,19 @@ fn report(
 
 /// What stands in this place of a report.
 fn named(place: usize) -> String {
+    const COLLATERAL: usize = 1;
+    const GUARANTEES: usize = COLLATERAL + ITEMS * OUTCOME_WIDTH;
+    const REST: usize = GUARANTEES + ITEMS * COVER_WIDTH;
+    let part = |first: usize, parts: &[&str], of: &str| {
+        let (item, part) = ((place - first) / parts.len(), (place - first) % parts.len());
+        format!("the {} of {of} {}", parts[part], item + 1)
+    };
     match place {
         0 => "E*".into(),
-        1..=32 => {
-            let part = ["value", "ground"][(place - 1) % 2];
-            format!("the {part} of collateral {}", (place - 1) / 2 + 1)
-        }
-        33..=80 => {
-            let part = ["value", "ground", "portion"][(place - 33) % 3];
-            format!("the {part} of guarantee {}", (place - 33) / 3 + 1)
-        }
-        81 => "the rest".into(),
-        82 => "the weighted amount".into(),
+        COLLATERAL..GUARANTEES => part(COLLATERAL, &["value", "ground"], "collateral"),
+        GUARANTEES..REST => part(GUARANTEES, &["value", "ground", "portion"], "guarantee"),
+        REST => "the rest".into(),
+        _ if place == REST + 1 => "the weighted amount".into(),
         _ => format!("place {place}, behind the report"),
     }
 }
@@ -263,17 +270,23 @@ fn garbage(
     Ok(())
 }
 
+/// Lengths of a list that should have this one.
+pub fn around(length: usize) -> [usize; 7] {
+    let short = length - 1;
+    [0, 1, short, length, length + 1, length + 2, length + 70]
+}
+
 /// Lists of other lengths: 13 and nothing written where the report's is too
-/// short, then 40 and zeros where the record's is not 332.
+/// short, then 40 and zeros where the record's is not a record's.
 fn lengths(
     random: &mut Random,
     record: &[u64; RECORD_LENGTH],
     tally: &mut Tally,
 ) -> Result<(), Difference> {
     let mut record = record.to_vec();
-    let length = random.pick(&[0, 1, 10, 331, 332, 333, 334, 400]);
+    let length = random.pick(&around(RECORD_LENGTH));
     record.resize(length, 1);
-    let room = random.pick(&[0, 1, 82, 83, 84, 90]);
+    let room = random.pick(&around(REPORT_LENGTH));
     if length == RECORD_LENGTH && room >= REPORT_LENGTH {
         return Ok(());
     }

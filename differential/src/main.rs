@@ -12,6 +12,7 @@ mod deal;
 mod line;
 mod malformed;
 mod measured;
+mod operations;
 mod outside;
 mod random;
 mod records;

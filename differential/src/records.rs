@@ -7,7 +7,7 @@ use crate::outside::put_outside;
 use crate::random::Random;
 use crate::values;
 
-const EDGES: &[u64] = &[
+pub const EDGES: &[u64] = &[
     0,
     1,
     2,
@@ -146,7 +146,8 @@ fn outside(random: &mut Random) -> Record {
     record
 }
 
-fn changed<const LENGTH: usize>(
+/// Fields of a line with one or more of them outside their range.
+pub fn changed<const LENGTH: usize>(
     random: &mut Random,
     letter: u8,
     fields: &[u64; LENGTH],

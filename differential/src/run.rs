@@ -6,6 +6,7 @@ use std::time::{Duration, Instant};
 use crate::arguments::Run;
 use crate::books::{self, Book};
 use crate::compare::{self, Difference};
+use crate::operations;
 use crate::random::Random;
 use crate::records;
 use crate::sides::SIDES;
@@ -39,7 +40,7 @@ pub fn run(options: &Run) -> bool {
     complete(&tally, options.require_all)
 }
 
-/// One book, then records; all of it from the seed and the book's number.
+/// One book, then records, then operations; all of it from the seed and the book's number.
 fn trial(seed: u64, number: u64, book: &Book, tally: &mut Tally) -> Result<(), Difference> {
     tally.books += 1;
     *tally.books_by_kind.entry(book.kind.name()).or_default() += 1;
@@ -49,7 +50,7 @@ fn trial(seed: u64, number: u64, book: &Book, tally: &mut Tally) -> Result<(), D
         let record = records::record(random);
         compare::record(random, &record, tally)?;
     }
-    Ok(())
+    operations::operations(random, tally)
 }
 
 fn complete(tally: &Tally, require_all: bool) -> bool {

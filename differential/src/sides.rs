@@ -1,6 +1,6 @@
 //! Both implementations behind the same calls on the same numbers.
 
-use hadlephoga::{BookReply, Record, RECORD_LENGTH, REPORT_LENGTH};
+use hadlephoga::{BookReply, Record, Terms, RECORD_LENGTH, REPORT_LENGTH};
 use reference::Outcome;
 
 #[derive(Clone, Copy, Debug, PartialEq, Eq)]
@@ -58,6 +58,44 @@ fn pair(outcome: Outcome) -> [u64; 2] {
         Outcome::Valued(value) => [value, 0],
         Outcome::LeftOut(ground) => [0, ground.into()],
     }
+}
+
+/// Opening by the second implementation, on lists of any length; zeros where it
+/// gives no deal.
+pub fn reference_open(terms: &[u64], record: &mut [u64]) -> u64 {
+    let Some(numbers) = record.first_chunk_mut::<RECORD_LENGTH>() else {
+        return 13;
+    };
+    *numbers = [0; RECORD_LENGTH];
+    let Ok(terms) = <[u64; Terms::LENGTH]>::try_from(terms) else {
+        return 11;
+    };
+    match reference::open(terms.into()) {
+        Ok(opened) => {
+            *numbers = from_reference(&opened).to_numbers();
+            0
+        }
+        Err(refusal) => refusal,
+    }
+}
+
+/// Adding by the second implementation, on lists of any length; the record is
+/// what it leaves, refused or not.
+pub fn reference_add<const WIDTH: usize, Item: From<[u64; WIDTH]>>(
+    add: fn(&mut reference::Record, Item) -> u64,
+    record: &mut [u64],
+    item: &[u64],
+) -> u64 {
+    let Ok(item) = <[u64; WIDTH]>::try_from(item) else {
+        return 11;
+    };
+    let Ok(numbers) = <&mut [u64; RECORD_LENGTH]>::try_from(record) else {
+        return 40;
+    };
+    let mut record = to_reference(&Record::from_numbers(numbers));
+    let refusal = add(&mut record, item.into());
+    *numbers = from_reference(&record).to_numbers();
+    refusal
 }
 
 fn to_reference(record: &Record) -> reference::Record {

@@ -24,6 +24,9 @@ pub fn print(tally: &Tally) {
     let by_number = [
         &tally.refused_books,
         &tally.refused_records,
+        &tally.opened,
+        &tally.added_collateral,
+        &tally.added_guarantees,
         &tally.collateral_grounds,
         &tally.guarantee_grounds,
     ];

@@ -29,6 +29,9 @@ pub struct Tally {
     pub refused_books: Cells,
     pub refused_lines: Cells,
     pub refused_records: Cells,
+    pub opened: Cells,
+    pub added_collateral: Cells,
+    pub added_guarantees: Cells,
     pub collateral_grounds: Cells,
     pub guarantee_grounds: Cells,
     pub collateral_haircuts: Cells,
@@ -60,6 +63,15 @@ impl Tally {
             refused_books: Cells::of_numbers("refusals of books", [9, 10, 12, 13]),
             refused_lines: Cells::new("refusals of lines by letter", refusals_of_lines()),
             refused_records: Cells::of_numbers("refusals of records", [13, 40]),
+            opened: Cells::of_numbers("answers of opening on numbers", (0..=5).chain([11, 13])),
+            added_collateral: Cells::of_numbers(
+                "answers of adding collateral on numbers",
+                (0..=8).chain([11, 40]),
+            ),
+            added_guarantees: Cells::of_numbers(
+                "answers of adding guarantees on numbers",
+                (0..=8).chain([11, 40]),
+            ),
             collateral_grounds: Cells::of_numbers("grounds of collateral", 21..=26),
             guarantee_grounds: Cells::of_numbers(
                 "grounds of guarantees",
@@ -97,12 +109,15 @@ impl Tally {
     }
 
     /// Every family of cases that a run should meet.
-    pub fn families(&self) -> [&Cells; 12] {
+    pub fn families(&self) -> [&Cells; 15] {
         [
             &self.book_sizes,
             &self.refused_books,
             &self.refused_lines,
             &self.refused_records,
+            &self.opened,
+            &self.added_collateral,
+            &self.added_guarantees,
             &self.collateral_grounds,
             &self.guarantee_grounds,
             &self.collateral_haircuts,

@@ -1,5 +1,5 @@
-/* Answers the sample book of document 01, reports its first deal, and shows
- * what a refused call gives. */
+/* Answers the sample book of document 01, builds and reports its first deal, and
+ * shows what a refused call gives. */
 #include <inttypes.h>
 #include <stdio.h>
 #include <string.h>
@@ -32,51 +32,66 @@ static void answer_sample(void)
 }
 
 /* The sample's first deal, with a related bond besides, which is left out. */
-static const struct hadlephoga_deal first = {
+static const struct hadlephoga_terms terms = {
     .amount = 1000000, .counterparty_class = 3, .step = 0, .currency = 978,
     .kind = 3, .interval = 1, .residual_term = 1800,
     .lent_type = 1, .lent_step = 0, .lent_issue_life = 0,
-    .collateral_count = 2,
-    .collateral = {
-        {.amount = 400000, .type = 2, .step = 1, .issue_life = 720, .currency = 978,
-         .residual_term = 1800, .original_term = 1800, .lawful = 1, .unrelated = 1, .unreflected = 1},
-        {.amount = 50000, .type = 3, .step = 2, .issue_life = 360, .currency = 978,
-         .residual_term = 1800, .original_term = 1800, .lawful = 1, .unrelated = 0, .unreflected = 1},
-    },
-    .guarantee_count = 1,
-    .guarantees = {
-        {.amount = 200000, .provider_class = 1, .step = 1, .currency = 978,
-         .residual_term = 1800, .original_term = 1800, .lawful = 1, .direct = 1, .unreflected = 1},
-    },
+};
+static const struct hadlephoga_collateral bonds[] = {
+    {.amount = 400000, .type = 2, .step = 1, .issue_life = 720, .currency = 978,
+     .residual_term = 1800, .original_term = 1800, .lawful = 1, .unrelated = 1, .unreflected = 1},
+    {.amount = 50000, .type = 3, .step = 2, .issue_life = 360, .currency = 978,
+     .residual_term = 1800, .original_term = 1800, .lawful = 1, .unrelated = 0, .unreflected = 1},
+};
+static const struct hadlephoga_guarantee guarantee = {
+    .amount = 200000, .provider_class = 1, .step = 1, .currency = 978,
+    .residual_term = 1800, .original_term = 1800, .lawful = 1, .direct = 1, .unreflected = 1,
 };
 
-static void report_first(void)
+/* A refusal names the test and leaves the record as it was. */
+static struct hadlephoga_deal build_first(void)
+{
+  struct hadlephoga_deal deal;
+  struct hadlephoga_collateral no_currency = bonds[0];
+
+  printf("opened: refusal %" PRIu64 "\n", hadlephoga_open_with(&terms, &deal));
+  for (size_t i = 0; i < sizeof bonds / sizeof bonds[0]; i++)
+    printf("collateral added: refusal %" PRIu64 "\n", hadlephoga_add_collateral_to(&deal, &bonds[i]));
+  no_currency.currency = 0;
+  printf("no currency: refusal %" PRIu64 "\n", hadlephoga_add_collateral_to(&deal, &no_currency));
+  printf("guarantee added: refusal %" PRIu64 "\n", hadlephoga_add_guarantee_to(&deal, &guarantee));
+  return deal;
+}
+
+static void report_first(const struct hadlephoga_deal *first)
 {
   struct hadlephoga_report report;
-  uint64_t refusal = hadlephoga_report_of(&first, &report);
+  uint64_t refusal = hadlephoga_report_of(first, &report);
 
   printf("report: refusal %" PRIu64 ", E* %" PRIu64 "\n", refusal, report.exposure);
-  for (uint64_t i = 0; i < first.collateral_count; i++)
+  for (uint64_t i = 0; i < first->collateral_count; i++)
     printf("collateral %" PRIu64 ": value %" PRIu64 ", ground %" PRIu64 "\n", i + 1,
            report.collateral[i].value, report.collateral[i].ground);
-  for (uint64_t i = 0; i < first.guarantee_count; i++)
+  for (uint64_t i = 0; i < first->guarantee_count; i++)
     printf("guarantee %" PRIu64 ": value %" PRIu64 ", ground %" PRIu64 ", portion %" PRIu64 "\n", i + 1,
            report.guarantees[i].value, report.guarantees[i].ground, report.guarantees[i].portion);
   printf("rest %" PRIu64 ", weighted amount %" PRIu64 "\n", report.rest, report.weighted_amount);
 }
 
-static void show_refusals(void)
+static void show_refusals(const struct hadlephoga_deal *first)
 {
-  struct hadlephoga_deal unknown_class = first;
+  struct hadlephoga_terms unknown_class = terms;
+  struct hadlephoga_deal deal;
   struct hadlephoga_report report;
   struct hadlephoga_answer answers[2];
   uint64_t short_list[HADLEPHOGA_REPORT_LENGTH - 1];
   uint64_t deals;
 
   unknown_class.counterparty_class = 5;
-  printf("unknown class: refusal %" PRIu64 "\n", hadlephoga_report_of(&unknown_class, &report));
+  printf("unknown class: refusal %" PRIu64 "\n", hadlephoga_open_with(&unknown_class, &deal));
+  printf("its record: refusal %" PRIu64 "\n", hadlephoga_report_of(&deal, &report));
   printf("short report: refusal %" PRIu64 "\n",
-         hadlephoga_report_deal((const uint64_t *)&first, HADLEPHOGA_RECORD_LENGTH,
+         hadlephoga_report_deal((const uint64_t *)first, HADLEPHOGA_RECORD_LENGTH,
                                 short_list, HADLEPHOGA_REPORT_LENGTH - 1));
   printf("two places for three deals: refusal %" PRIu64 "\n",
          hadlephoga_answers((const uint8_t *)sample, strlen(sample), answers, 2, &deals));
@@ -86,8 +101,11 @@ static void show_refusals(void)
 
 int main(void)
 {
+  struct hadlephoga_deal first;
+
   answer_sample();
-  report_first();
-  show_refusals();
+  first = build_first();
+  report_first(&first);
+  show_refusals(&first);
   return 0;
 }

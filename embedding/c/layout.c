@@ -21,7 +21,7 @@ static void is(int line, const char *name, uint64_t found, uint64_t due)
 
 /* Places */
 
-/* Fills a struct with 0, 1, 2, ..; its length is said again by the test. */
+/* Fills a struct with 0, 1, 2, .. */
 static void fill(void *numbers, size_t size, size_t length)
 {
   uint64_t place;
@@ -59,67 +59,93 @@ static void guarantee_from(const struct hadlephoga_guarantee *item, uint64_t fir
   IS(item->unreflected, first + 8);
 }
 
+static void terms_from(const struct hadlephoga_terms *terms, uint64_t first)
+{
+  IS(terms->amount, first);
+  IS(terms->counterparty_class, first + 1);
+  IS(terms->step, first + 2);
+  IS(terms->currency, first + 3);
+  IS(terms->kind, first + 4);
+  IS(terms->interval, first + 5);
+  IS(terms->residual_term, first + 6);
+  IS(terms->lent_type, first + 7);
+  IS(terms->lent_step, first + 8);
+  IS(terms->lent_issue_life, first + 9);
+}
+
+#define LAST_ITEM (HADLEPHOGA_ITEMS - 1)
+
 static void places_of_deal(void)
 {
+  const uint64_t collateral_count = HADLEPHOGA_TERMS_WIDTH;
+  const uint64_t collateral = collateral_count + 1;
+  const uint64_t guarantee_count = collateral + HADLEPHOGA_ITEMS * HADLEPHOGA_COLLATERAL_WIDTH;
+  const uint64_t guarantees = guarantee_count + 1;
   struct hadlephoga_deal deal;
 
-  fill(&deal, sizeof deal, 332);
-  IS(deal.amount, 0);
-  IS(deal.counterparty_class, 1);
-  IS(deal.step, 2);
-  IS(deal.currency, 3);
-  IS(deal.kind, 4);
-  IS(deal.interval, 5);
-  IS(deal.residual_term, 6);
-  IS(deal.lent_type, 7);
-  IS(deal.lent_step, 8);
-  IS(deal.lent_issue_life, 9);
-  IS(deal.collateral_count, 10);
-  collateral_from(&deal.collateral[0], 11);
-  collateral_from(&deal.collateral[15], 176);
-  IS(deal.guarantee_count, 187);
-  guarantee_from(&deal.guarantees[0], 188);
-  guarantee_from(&deal.guarantees[15], 323);
+  fill(&deal, sizeof deal, HADLEPHOGA_RECORD_LENGTH);
+  terms_from(&deal.terms, 0);
+  IS(deal.collateral_count, collateral_count);
+  collateral_from(&deal.collateral[0], collateral);
+  collateral_from(&deal.collateral[LAST_ITEM], collateral + LAST_ITEM * HADLEPHOGA_COLLATERAL_WIDTH);
+  IS(deal.guarantee_count, guarantee_count);
+  guarantee_from(&deal.guarantees[0], guarantees);
+  guarantee_from(&deal.guarantees[LAST_ITEM], guarantees + LAST_ITEM * HADLEPHOGA_GUARANTEE_WIDTH);
+}
+
+static void outcome_from(const struct hadlephoga_outcome *outcome, uint64_t first)
+{
+  IS(outcome->value, first);
+  IS(outcome->ground, first + 1);
+}
+
+static void cover_from(const struct hadlephoga_cover *cover, uint64_t first)
+{
+  IS(cover->value, first);
+  IS(cover->ground, first + 1);
+  IS(cover->portion, first + 2);
 }
 
 static void places_of_report(void)
 {
+  const uint64_t collateral = 1;
+  const uint64_t guarantees = collateral + HADLEPHOGA_ITEMS * HADLEPHOGA_OUTCOME_WIDTH;
+  const uint64_t rest = guarantees + HADLEPHOGA_ITEMS * HADLEPHOGA_COVER_WIDTH;
   struct hadlephoga_report report;
 
-  fill(&report, sizeof report, 83);
+  fill(&report, sizeof report, HADLEPHOGA_REPORT_LENGTH);
   IS(report.exposure, 0);
-  IS(report.collateral[0].value, 1);
-  IS(report.collateral[0].ground, 2);
-  IS(report.collateral[15].value, 31);
-  IS(report.collateral[15].ground, 32);
-  IS(report.guarantees[0].value, 33);
-  IS(report.guarantees[0].ground, 34);
-  IS(report.guarantees[0].portion, 35);
-  IS(report.guarantees[15].value, 78);
-  IS(report.guarantees[15].ground, 79);
-  IS(report.guarantees[15].portion, 80);
-  IS(report.rest, 81);
-  IS(report.weighted_amount, 82);
+  outcome_from(&report.collateral[0], collateral);
+  outcome_from(&report.collateral[LAST_ITEM], collateral + LAST_ITEM * HADLEPHOGA_OUTCOME_WIDTH);
+  cover_from(&report.guarantees[0], guarantees);
+  cover_from(&report.guarantees[LAST_ITEM], guarantees + LAST_ITEM * HADLEPHOGA_COVER_WIDTH);
+  IS(report.rest, rest);
+  IS(report.weighted_amount, rest + 1);
 }
 
 static void places_of_answer(void)
 {
   struct hadlephoga_answer answer;
 
-  fill(&answer, sizeof answer, 4);
+  fill(&answer, sizeof answer, HADLEPHOGA_ANSWER_LENGTH);
   IS(answer.serial, 0);
   IS(answer.refusal, 1);
   IS(answer.exposure, 2);
   IS(answer.weighted_amount, 3);
 }
 
+/* What the library itself takes for a record and a report. */
 static void lengths(void)
 {
-  IS(HADLEPHOGA_BOOK_LIMIT, 65536);
-  IS(HADLEPHOGA_ITEMS, 16);
-  IS(HADLEPHOGA_ANSWER_LENGTH, 4);
-  IS(HADLEPHOGA_RECORD_LENGTH, 332);
-  IS(HADLEPHOGA_REPORT_LENGTH, 83);
+  static const uint64_t terms[HADLEPHOGA_TERMS_WIDTH] = {1, 3, 0, 978, 3, 1, 90, 1, 0, 0};
+  uint64_t record[HADLEPHOGA_RECORD_LENGTH + 1];
+  uint64_t report[HADLEPHOGA_REPORT_LENGTH];
+
+  IS(hadlephoga_open_deal(terms, HADLEPHOGA_TERMS_WIDTH, record, HADLEPHOGA_RECORD_LENGTH - 1), 13);
+  IS(hadlephoga_open_deal(terms, HADLEPHOGA_TERMS_WIDTH, record, HADLEPHOGA_RECORD_LENGTH), 0);
+  IS(hadlephoga_report_deal(record, HADLEPHOGA_RECORD_LENGTH + 1, report, HADLEPHOGA_REPORT_LENGTH), 40);
+  IS(hadlephoga_report_deal(record, HADLEPHOGA_RECORD_LENGTH, report, HADLEPHOGA_REPORT_LENGTH - 1), 13);
+  IS(hadlephoga_report_deal(record, HADLEPHOGA_RECORD_LENGTH, report, HADLEPHOGA_REPORT_LENGTH), 0);
 }
 
 /* Meanings: a deal in which no two fields that could be exchanged are alike. */
@@ -166,16 +192,16 @@ static struct hadlephoga_deal deal_of_all_grounds(uint64_t last_but_one)
   struct hadlephoga_deal deal;
 
   memset(&deal, 0, sizeof deal);
-  deal.amount = 1000000;
-  deal.counterparty_class = 3;
-  deal.step = 5;
-  deal.currency = 978;
-  deal.kind = 1;
-  deal.interval = 6;
-  deal.residual_term = 1800;
-  deal.lent_type = 4;
-  deal.lent_step = 2;
-  deal.lent_issue_life = 720;
+  deal.terms.amount = 1000000;
+  deal.terms.counterparty_class = 3;
+  deal.terms.step = 5;
+  deal.terms.currency = 978;
+  deal.terms.kind = 1;
+  deal.terms.interval = 6;
+  deal.terms.residual_term = 1800;
+  deal.terms.lent_type = 4;
+  deal.terms.lent_step = 2;
+  deal.terms.lent_issue_life = 720;
 
   deal.collateral_count = 8;
   deal.collateral[0] = paper(10001);
@@ -289,12 +315,50 @@ static void meanings(void)
   IS(report->weighted_amount, 364653);
 
   /* Cash has no step; a list has no seventeenth place. */
-  deal.lent_type = 1;
+  deal.terms.lent_type = 1;
   IS(hadlephoga_report_of(&deal, &marked.report), 40);
   IS(marked.mark, MARK);
   deal = deal_of_all_grounds(150000);
   deal.guarantee_count = HADLEPHOGA_ITEMS + 1;
   IS(hadlephoga_report_of(&deal, &marked.report), 40);
+}
+
+/* Opening and adding: the library builds the record that was filled by hand. */
+static void built(void)
+{
+  struct hadlephoga_deal deal = deal_of_all_grounds(400000);
+  struct {
+    struct hadlephoga_deal deal;
+    uint64_t mark;
+  } lent;
+  struct hadlephoga_terms terms = deal.terms;
+  struct hadlephoga_collateral pledge = paper(1);
+  struct hadlephoga_guarantee guarantee = promise(1);
+  size_t i;
+
+  memset(&lent, 0xA5, sizeof lent);
+  terms.step = 7;
+  IS(hadlephoga_open_with(&terms, &lent.deal), 3);
+  IS(lent.deal.terms.amount, 0);
+  IS(lent.mark, MARK);
+  IS(hadlephoga_add_collateral_to(&lent.deal, &pledge), 40);
+  IS(hadlephoga_open_deal((const uint64_t *)&deal, HADLEPHOGA_TERMS_WIDTH + 1, (uint64_t *)&lent.deal,
+                          HADLEPHOGA_RECORD_LENGTH), 11);
+  IS(hadlephoga_open_with(&deal.terms, &lent.deal), 0);
+  for (i = 0; i < deal.collateral_count; i++)
+    IS(hadlephoga_add_collateral_to(&lent.deal, &deal.collateral[i]), 0);
+  for (i = 0; i < deal.guarantee_count; i++)
+    IS(hadlephoga_add_guarantee_to(&lent.deal, &deal.guarantees[i]), 0);
+  IS((uint64_t)memcmp(&lent.deal, &deal, sizeof deal), 0);
+  /* Refused, each by its own number, with the record as it was. */
+  pledge.currency = 1000;
+  IS(hadlephoga_add_collateral_to(&lent.deal, &pledge), 4);
+  guarantee.direct = 2;
+  IS(hadlephoga_add_guarantee_to(&lent.deal, &guarantee), 8);
+  IS(hadlephoga_add_guarantee((uint64_t *)&lent.deal, HADLEPHOGA_RECORD_LENGTH, (const uint64_t *)&guarantee,
+                              HADLEPHOGA_GUARANTEE_WIDTH - 1), 11);
+  IS((uint64_t)memcmp(&lent.deal, &deal, sizeof deal), 0);
+  IS(lent.mark, MARK);
 }
 
 /* Books */
@@ -362,6 +426,7 @@ int main(void)
   places_of_report();
   places_of_answer();
   meanings();
+  built();
   answers_of_two_deals();
   longest_book();
   return 0;

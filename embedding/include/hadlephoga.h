@@ -2,7 +2,7 @@
  * Credit-risk relief of a book of deals, or of one deal: haircuts, recognised
  * values, covered portions and weighted amounts under CRE20 and CRE22 (2019).
  *
- * Link with libhadlephoga.a. Both calls take any bytes and any numbers: the
+ * Link with libhadlephoga.a. All calls take any bytes and any numbers: the
  * answer to every input is a figure or a refusal by number. A pointer is not
  * null, points to as many bytes or numbers as the length beside it says, and
  * nothing that is written overlaps anything else that is passed. The library holds no state and
@@ -18,11 +18,25 @@
 extern "C" {
 #endif
 
-#define HADLEPHOGA_BOOK_LIMIT 65536   /* bytes of a book */
-#define HADLEPHOGA_ITEMS 16           /* places of collateral, and of guarantees */
-#define HADLEPHOGA_ANSWER_LENGTH 4    /* numbers that answer a deal of a book */
-#define HADLEPHOGA_RECORD_LENGTH 332  /* numbers of a deal's record */
-#define HADLEPHOGA_REPORT_LENGTH 83   /* numbers of a deal's report */
+#define HADLEPHOGA_BOOK_LIMIT 65536 /* bytes of a book */
+#define HADLEPHOGA_ITEMS 16         /* places of collateral, and of guarantees */
+
+/* How many numbers there are of each. */
+#define HADLEPHOGA_ANSWER_LENGTH 4 /* that answer a deal of a book */
+#define HADLEPHOGA_TERMS_WIDTH 10
+#define HADLEPHOGA_COLLATERAL_WIDTH 11
+#define HADLEPHOGA_GUARANTEE_WIDTH 9
+#define HADLEPHOGA_OUTCOME_WIDTH 2 /* that report an item of collateral */
+#define HADLEPHOGA_COVER_WIDTH 3   /* that report a guarantee */
+
+/* Of a record: the terms, and each list's count and places. */
+#define HADLEPHOGA_RECORD_LENGTH \
+  (HADLEPHOGA_TERMS_WIDTH + 1 + HADLEPHOGA_ITEMS * HADLEPHOGA_COLLATERAL_WIDTH + \
+   1 + HADLEPHOGA_ITEMS * HADLEPHOGA_GUARANTEE_WIDTH)
+
+/* Of a report: E*, both lists' places, the rest and the weighted amount. */
+#define HADLEPHOGA_REPORT_LENGTH \
+  (1 + HADLEPHOGA_ITEMS * HADLEPHOGA_OUTCOME_WIDTH + HADLEPHOGA_ITEMS * HADLEPHOGA_COVER_WIDTH + 2)
 
 /*
  * Answers a book. Returns 0, or the refusal of the whole book, the first met:
@@ -41,25 +55,60 @@ uint64_t hadlephoga_answer_book(const uint8_t *book, size_t book_length,
                                 uint64_t *deals);
 
 /*
+ * Opens a deal. Returns the first that applies:
+ *
+ *   13  record_length is below HADLEPHOGA_RECORD_LENGTH: nothing is written
+ *   11  terms_length is not HADLEPHOGA_TERMS_WIDTH
+ *   1 to 5, as below, of the terms
+ *    0  otherwise: the record of a deal with empty lists is written
+ *
+ * With 11 and 1 to 5 a record of zeros is written, which no other call accepts.
+ * terms has the layout of struct hadlephoga_terms, record that of struct
+ * hadlephoga_deal. Numbers behind a record's are untouched.
+ */
+uint64_t hadlephoga_open_deal(const uint64_t *terms, size_t terms_length,
+                              uint64_t *record, size_t record_length);
+
+/*
+ * Adds an item of collateral to a record. Returns the first that applies:
+ *
+ *   11  item_length is not HADLEPHOGA_COLLATERAL_WIDTH
+ *   40  as hadlephoga_report_deal, of the record
+ *   6, 1 to 5, 7, 8, as below, of the list and the item
+ *    0  otherwise: the item is in the list's next place, and its count one more
+ *
+ * With a refusal the record is untouched. item has the layout of struct
+ * hadlephoga_collateral.
+ */
+uint64_t hadlephoga_add_collateral(uint64_t *record, size_t record_length,
+                                   const uint64_t *item, size_t item_length);
+
+/* The same of a guarantee, HADLEPHOGA_GUARANTEE_WIDTH and struct
+ * hadlephoga_guarantee. */
+uint64_t hadlephoga_add_guarantee(uint64_t *record, size_t record_length,
+                                  const uint64_t *item, size_t item_length);
+
+/*
  * Reports one deal. Returns the first that applies:
  *
- *   13  report_length is below 83: nothing is written
- *   40  record_length is not 332, a list count is above sixteen, or a field of
- *       the deal or of a counted item is one that a line of a book would be
- *       refused for (1 to 5, 7, 8): 83 zeros are written
- *    0  otherwise: the 83 numbers of the report are written
+ *   13  report_length is below HADLEPHOGA_REPORT_LENGTH: nothing is written
+ *   40  record_length is not HADLEPHOGA_RECORD_LENGTH, a list count is above
+ *       sixteen, or a field of the deal or of a counted item is one that opening
+ *       or adding refuses (1 to 5, 7, 8): a report of zeros is written
+ *    0  otherwise: the report is written
  *
  * record has the layout of struct hadlephoga_deal, report that of struct
- * hadlephoga_report. Numbers of report behind the 83 are untouched.
+ * hadlephoga_report. Numbers behind a report's are untouched.
  */
 uint64_t hadlephoga_report_deal(const uint64_t *record, size_t record_length,
                                 uint64_t *report, size_t report_length);
 
-/* Refusals of a line of a book: 11 malformed (unknown letter, wrong number of
- * fields, bad number, no line feed), before all others; 6 that list is full; 1
- * amount over the limit; 2 unknown class, kind or type; 3 step above 6, or not 0
- * where 0 is due; 4 currency; 5 interval, term or issue life outside its range; 7
- * residual term above original; 8 a condition neither 0 nor 1. */
+/* Refusals of a line of a book, of opening and of adding: 11 malformed (unknown
+ * letter, wrong number of fields, bad number, no line feed), before all others; 6
+ * that list is full; 1 amount over the limit; 2 unknown class, kind or type; 3
+ * step above 6, or not 0 where 0 is due; 4 currency; 5 interval, term or issue
+ * life outside its range; 7 residual term above original; 8 a condition neither 0
+ * nor 1. */
 
 /* The answer to a deal of a book. */
 struct hadlephoga_answer {
@@ -105,8 +154,8 @@ struct hadlephoga_guarantee {
   uint64_t unreflected; /* not already in the rating used */
 };
 
-/* A deal's record. Places at or past a count are not looked at. */
-struct hadlephoga_deal {
+/* The terms of a deal. */
+struct hadlephoga_terms {
   uint64_t amount;
   uint64_t counterparty_class; /* 1 sovereign, 2 bank, 3 corporate, 4 retail (step 0) */
   uint64_t step;
@@ -117,6 +166,11 @@ struct hadlephoga_deal {
   uint64_t lent_type; /* a loan lends cash: 1, 0, 0 */
   uint64_t lent_step;
   uint64_t lent_issue_life;
+};
+
+/* A deal's record. Places at or past a count are not looked at. */
+struct hadlephoga_deal {
+  struct hadlephoga_terms terms;
   uint64_t collateral_count;
   struct hadlephoga_collateral collateral[HADLEPHOGA_ITEMS];
   uint64_t guarantee_count;
@@ -158,14 +212,15 @@ struct hadlephoga_report {
 #define HADLEPHOGA_ASSERT _Static_assert
 #endif
 #ifdef HADLEPHOGA_ASSERT
-HADLEPHOGA_ASSERT(sizeof(struct hadlephoga_answer) == HADLEPHOGA_ANSWER_LENGTH * sizeof(uint64_t),
-                  "an answer is 4 numbers");
-HADLEPHOGA_ASSERT(sizeof(struct hadlephoga_collateral) == 11 * sizeof(uint64_t), "an item of collateral is 11 numbers");
-HADLEPHOGA_ASSERT(sizeof(struct hadlephoga_guarantee) == 9 * sizeof(uint64_t), "a guarantee is 9 numbers");
-HADLEPHOGA_ASSERT(sizeof(struct hadlephoga_deal) == HADLEPHOGA_RECORD_LENGTH * sizeof(uint64_t),
-                  "a record is 332 numbers");
-HADLEPHOGA_ASSERT(sizeof(struct hadlephoga_report) == HADLEPHOGA_REPORT_LENGTH * sizeof(uint64_t),
-                  "a report is 83 numbers");
+HADLEPHOGA_ASSERT(sizeof(struct hadlephoga_answer) == HADLEPHOGA_ANSWER_LENGTH * sizeof(uint64_t), "an answer");
+HADLEPHOGA_ASSERT(sizeof(struct hadlephoga_terms) == HADLEPHOGA_TERMS_WIDTH * sizeof(uint64_t), "terms");
+HADLEPHOGA_ASSERT(sizeof(struct hadlephoga_collateral) == HADLEPHOGA_COLLATERAL_WIDTH * sizeof(uint64_t),
+                  "an item of collateral");
+HADLEPHOGA_ASSERT(sizeof(struct hadlephoga_guarantee) == HADLEPHOGA_GUARANTEE_WIDTH * sizeof(uint64_t), "a guarantee");
+HADLEPHOGA_ASSERT(sizeof(struct hadlephoga_deal) == HADLEPHOGA_RECORD_LENGTH * sizeof(uint64_t), "a record");
+HADLEPHOGA_ASSERT(sizeof(struct hadlephoga_outcome) == HADLEPHOGA_OUTCOME_WIDTH * sizeof(uint64_t), "an outcome");
+HADLEPHOGA_ASSERT(sizeof(struct hadlephoga_cover) == HADLEPHOGA_COVER_WIDTH * sizeof(uint64_t), "a cover");
+HADLEPHOGA_ASSERT(sizeof(struct hadlephoga_report) == HADLEPHOGA_REPORT_LENGTH * sizeof(uint64_t), "a report");
 #undef HADLEPHOGA_ASSERT
 #endif
 
@@ -176,6 +231,29 @@ static inline uint64_t hadlephoga_answers(const uint8_t *book, size_t book_lengt
 {
   return hadlephoga_answer_book(book, book_length, (uint64_t *)answers,
                                 answers_length * HADLEPHOGA_ANSWER_LENGTH, deals);
+}
+
+/* hadlephoga_open_deal of structs; 0 or 1 to 5. */
+static inline uint64_t hadlephoga_open_with(const struct hadlephoga_terms *terms, struct hadlephoga_deal *deal)
+{
+  return hadlephoga_open_deal((const uint64_t *)terms, HADLEPHOGA_TERMS_WIDTH,
+                              (uint64_t *)deal, HADLEPHOGA_RECORD_LENGTH);
+}
+
+/* hadlephoga_add_collateral of structs; 0, 40 or 1 to 8. */
+static inline uint64_t hadlephoga_add_collateral_to(struct hadlephoga_deal *deal,
+                                                    const struct hadlephoga_collateral *item)
+{
+  return hadlephoga_add_collateral((uint64_t *)deal, HADLEPHOGA_RECORD_LENGTH,
+                                   (const uint64_t *)item, HADLEPHOGA_COLLATERAL_WIDTH);
+}
+
+/* hadlephoga_add_guarantee of structs; 0, 40 or 1 to 8. */
+static inline uint64_t hadlephoga_add_guarantee_to(struct hadlephoga_deal *deal,
+                                                   const struct hadlephoga_guarantee *item)
+{
+  return hadlephoga_add_guarantee((uint64_t *)deal, HADLEPHOGA_RECORD_LENGTH,
+                                  (const uint64_t *)item, HADLEPHOGA_GUARANTEE_WIDTH);
 }
 
 /* hadlephoga_report_deal of a struct; 0 or 40. */

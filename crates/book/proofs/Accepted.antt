@@ -31,7 +31,7 @@ not-40 refusal d only h = go (eqb refusal 40) refl
 
 terms-not-40 : (t : Terms) → eqb (termsRefusal t) 40 ≡ false
 unfolding termsRefusal termsTests
-terms-not-40 t = first-holds 0 (λ n. eqb n 40 ≡ false) (termsTests t) (refl, (refl, (refl, (refl, (refl, tt))))) (λ none. refl)
+terms-not-40 t = first-holds 0 (λ n. eqb n 40 ≡ false) (termsTests t) (refl, (refl, (refl, (refl, (refl, (refl, (refl, tt))))))) (λ none. refl)
 
 opening-not-40 : (line : Line) → eqb (openingRefusal line) 40 ≡ false
 unfolding openingRefusal

@@ -24,7 +24,8 @@ pub struct DealReply {
     pub deal: Deal,
 }
 
-fn without_protection(terms: Terms) -> Deal
+// A deal on these terms with empty lists.
+pub fn without_protection(terms: Terms) -> Deal
     ensures { λ r. ⌜ r ≡ withoutProtection terms ⌝ }
 {
     let collateral = CollateralList::empty();

@@ -1,8 +1,8 @@
-// Terms and items from numbers in the order in which they are sent.
+// Terms and items from numbers in the order in which they are sent, and back.
 ghost use mathlib.Core.Path.{_≡_};
 ghost use Prim.Native.Nat.{_≤_};
 ghost use lib.ListN.{length};
-ghost use Rattle.deal.specs.Fields.{collateralIn, collateralWidth, guaranteeIn, guaranteeWidth, termsIn, termsWidth};
+ghost use Rattle.deal.specs.Fields.{collateralFields, collateralIn, collateralWidth, guaranteeFields, guaranteeIn, guaranteeWidth, termsFields, termsIn, termsWidth};
 use crate::asset::Asset;
 use crate::collateral::Collateral;
 use crate::guarantee::Guarantee;
@@ -76,4 +76,59 @@ pub fn guarantee_in(fields: &[u64]) -> Guarantee
         direct: fields[7],
         not_in_rating: fields[8],
     }
+}
+
+pub fn terms_fields(terms: Terms) -> [u64; TERMS_WIDTH]
+    ensures { λ r. ⌜ r ≡ termsFields terms ⌝ }
+{
+    let counterparty = terms.counterparty;
+    let lent = terms.lent;
+    [
+        terms.amount,
+        counterparty.class,
+        counterparty.step,
+        terms.currency,
+        terms.kind,
+        terms.interval,
+        terms.residual,
+        lent.goods,
+        lent.step,
+        lent.life,
+    ]
+}
+
+pub fn collateral_fields(item: Collateral) -> [u64; COLLATERAL_WIDTH]
+    ensures { λ r. ⌜ r ≡ collateralFields item ⌝ }
+{
+    let asset = item.asset;
+    [
+        item.amount,
+        asset.goods,
+        asset.step,
+        asset.life,
+        item.currency,
+        item.residual,
+        item.original,
+        item.lawful,
+        item.unrelated,
+        item.not_in_rating,
+        item.listed,
+    ]
+}
+
+pub fn guarantee_fields(item: Guarantee) -> [u64; GUARANTEE_WIDTH]
+    ensures { λ r. ⌜ r ≡ guaranteeFields item ⌝ }
+{
+    let provider = item.provider;
+    [
+        item.amount,
+        provider.class,
+        provider.step,
+        item.currency,
+        item.residual,
+        item.original,
+        item.lawful,
+        item.direct,
+        item.not_in_rating,
+    ]
 }

@@ -1,11 +1,14 @@
--- Records as numbers, and their reports: the first deal of 01's book, and where each number stands. Assumes nothing.
+-- Records as numbers, built and reported: the first deal of 01's book, and where each number stands. Assumes nothing.
 use Prim.Native.Nat.{ℕ, zero, suc}
 use mathlib.Core.Path.{_≡_, refl}
 use mathlib.Core.List.{List, [], _∷_, _++_}
 use lib.ListN.{getD, length, replicate}
 use Rattle.base.specs.Choice.{if_then_else_}
 use Rattle.deal.specs.Answers.{answerNumber}
-use Rattle.deal.specs.Fields.{zeroCollateral, zeroGuarantee, collateralIn, guaranteeIn, termsIn}
+use Rattle.deal.specs.Adding.{addCollateralRefusal, addCollateralTests, addGuaranteeRefusal, addGuaranteeTests, withCollateral, withGuarantee}
+use Rattle.deal.specs.Fields.{zeroCollateral, zeroGuarantee, collateralFields, collateralIn, guaranteeFields, guaranteeIn, termsFields, termsIn}
+use Rattle.deal.specs.Collateral.{collateralListTests}
+use Rattle.deal.specs.Guarantees.{guaranteeListTests}
 use Rattle.deal.specs.declared.answer.Answer.the-variants.{Accepted}
 use Rattle.relief.specs.Grounds.{groundNumber}
 use Rattle.relief.specs.Outcomes.{outcomeGround, outcomeValue}
@@ -13,8 +16,9 @@ use Rattle.relief.specs.declared.ground.Ground.the-variants.{NotLawful, WeightN
 use Rattle.relief.specs.declared.outcome.Outcome.the-variants.{LeftOut, Valued}
 use Rattle.relief.specs.declared.report.Report.{Report}
 use Rattle.relief.proofs.Computed.{computed}
-use Rattle.hadlephoga.specs.Records.{dealIn, pieces}
-use Rattle.hadlephoga.specs.Reports.{inOrder, listAfter, reportIn, reportNumbers, reportingRefusal}
+use Rattle.hadlephoga.specs.Operations.{addingCollateralRefusal, addingGuaranteeRefusal, addingRefusal, listOpened, numbersWithCollateral, numbersWithGuarantee, openedNumbers, openingRefusalOf, openingTests}
+use Rattle.hadlephoga.specs.Records.{dealIn, dealNumbers, inOrder, pieces, recordLength}
+use Rattle.hadlephoga.specs.Reports.{listAfter, reportIn, reportNumbers, reportingRefusal}
 
 -- "D 1000000 3 0 978 3 1 1800 1 0 0", "C 400000 2 1 720 978 1800 1800 1 1 1 0", "G 200000 1 1 978 1800 1800 1 1 1"
 abbrev example : List ℕ
@@ -27,13 +31,62 @@ example =
 example-reported :
     (reportingRefusal example 84 ≡ 0)
     × (listAfter example (replicate 84 7) ≡ 611314 ∷ 388686 ∷ 0 ∷ (replicate 30 0 ++ 200000 ∷ 0 ∷ 200000 ∷ (replicate 45 0 ++ 411314 ∷ 411314 ∷ 7 ∷ [])))
-unfolding computed reportingRefusal listAfter reportNumbers reportIn dealIn pieces inOrder termsIn collateralIn guaranteeIn answerNumber if_then_else_
+unfolding computed reportingRefusal listAfter reportNumbers reportIn dealIn pieces inOrder answerNumber if_then_else_
 example-reported = (refl, refl)
 
 -- numbers that are no record, and a list with one place too few
 not-reported : (reportingRefusal (0 ∷ example) 83 ≡ 40) × (listAfter (0 ∷ example) (replicate 83 7) ≡ replicate 83 0) × (reportingRefusal example 82 ≡ 13) × (listAfter example (replicate 82 7) ≡ replicate 82 7)
 unfolding computed reportingRefusal listAfter reportNumbers reportIn inOrder outcomeValue outcomeGround answerNumber if_then_else_
 not-reported = (refl, refl, refl, refl)
+
+-- the same deal, opened, and its items added
+abbrev opening : List ℕ
+opening = 1000000 ∷ 3 ∷ 0 ∷ 978 ∷ 3 ∷ 1 ∷ 1800 ∷ 1 ∷ 0 ∷ 0 ∷ []
+
+abbrev bond : List ℕ
+bond = 400000 ∷ 2 ∷ 1 ∷ 720 ∷ 978 ∷ 1800 ∷ 1800 ∷ 1 ∷ 1 ∷ 1 ∷ 0 ∷ []
+
+abbrev promise : List ℕ
+promise = 200000 ∷ 1 ∷ 1 ∷ 978 ∷ 1800 ∷ 1800 ∷ 1 ∷ 1 ∷ 1 ∷ []
+
+unfoldable built : List ℕ
+unfolding computed openingRefusalOf openingTests openedNumbers listOpened addingRefusal numbersWithCollateral numbersWithGuarantee addCollateralTests addGuaranteeTests addCollateralRefusal addGuaranteeRefusal collateralListTests guaranteeListTests withCollateral withGuarantee dealIn dealNumbers pieces inOrder
+built = numbersWithGuarantee (numbersWithCollateral (openedNumbers opening) bond) promise
+
+example-built : (built ≡ example) × (addingCollateralRefusal example bond ≡ 0) × (addingGuaranteeRefusal example promise ≡ 0)
+unfolding built
+example-built = (refl, refl, refl)
+
+-- opened into a list with a number behind the record, which stays
+example-opened : (openingRefusalOf opening 333 ≡ 0) × (listOpened opening (replicate 333 7) ≡ opening ++ (replicate 322 0 ++ 7 ∷ []))
+unfolding built
+example-opened = (refl, refl)
+
+-- "D 500 2 7 840 1 1 30 1 0 0" is refused with 3; terms with a number too many, with 11; both leave zeros. A list with one place too few, 13
+abbrev wrongStep : List ℕ
+wrongStep = 500 ∷ 2 ∷ 7 ∷ 840 ∷ 1 ∷ 1 ∷ 30 ∷ 1 ∷ 0 ∷ 0 ∷ []
+
+not-opened :
+    (openingRefusalOf wrongStep 333 ≡ 3)
+    × (listOpened wrongStep (replicate 333 7) ≡ replicate 332 0 ++ 7 ∷ [])
+    × (openingRefusalOf (0 ∷ opening) 333 ≡ 11)
+    × (listOpened (0 ∷ opening) (replicate 333 7) ≡ replicate 332 0 ++ 7 ∷ [])
+    × (openingRefusalOf (0 ∷ opening) 331 ≡ 13)
+    × (listOpened (0 ∷ opening) (replicate 331 7) ≡ replicate 331 7)
+unfolding built
+not-opened = (refl, refl, refl, refl, refl, refl)
+
+-- 11 before 40, 40 before the item's own refusals, of which 4 is one; the numbers stay
+not-added :
+    (addingCollateralRefusal [] promise ≡ 11)
+    × (addingGuaranteeRefusal [] bond ≡ 11)
+    × (addingCollateralRefusal (0 ∷ example) (replicate 11 0) ≡ 40)
+    × (addingGuaranteeRefusal (replicate 332 0) (replicate 9 0) ≡ 40)
+    × (addingCollateralRefusal example (400000 ∷ 2 ∷ 1 ∷ 720 ∷ replicate 7 0) ≡ 4)
+    × (numbersWithCollateral example (400000 ∷ 2 ∷ 1 ∷ 720 ∷ replicate 7 0) ≡ example)
+    × (numbersWithGuarantee (0 ∷ example) promise ≡ 0 ∷ example)
+unfolding built
+not-added = (refl, refl, refl, refl, refl, refl, refl)
 
 -- so many numbers, counted up
 unfoldable countedUp : ℕ → ℕ → List ℕ
@@ -49,9 +102,10 @@ record-in-place :
     × (dealIn (countedUp 0 332) .guarantees .count ≡ 187)
     × (getD (dealIn (countedUp 0 332) .guarantees .items) 0 zeroGuarantee ≡ guaranteeIn (countedUp 188 9))
     × (getD (dealIn (countedUp 0 332) .guarantees .items) 15 zeroGuarantee ≡ guaranteeIn (countedUp 323 9))
-    × (length (countedUp 0 332) ≡ 332)
-unfolding dealIn pieces termsIn collateralIn guaranteeIn countedUp
-record-in-place = (refl, refl, refl, refl, refl, refl, refl, refl)
+    × (length (countedUp 0 332) ≡ recordLength)
+    × (dealNumbers (dealIn (countedUp 0 332)) ≡ countedUp 0 332)
+unfolding built countedUp
+record-in-place = (refl, refl, refl, refl, refl, refl, refl, refl, refl)
 
 -- a report with other numbers in every part
 abbrev sample : Report

@@ -1,3 +1,5 @@
 pub mod Examples
 pub mod Pieces
 pub mod Numbers
+pub mod Operations
+pub mod Records

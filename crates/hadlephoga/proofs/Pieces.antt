@@ -1,15 +1,16 @@
 -- Pieces of a list of numbers, from which the places of an array are filled one by one. Assumes nothing.
 use Prim.Native.Nat.{ℕ, zero, suc, _+_, _*_, _-_, _≤_, _<_}
 use mathlib.Core.Path.{_≡_, refl, sym, ap, _∙_}
-use mathlib.Core.List.{List, [], map, _++_, append-nil}
+use mathlib.Core.List.{List, [], _∷_, map, _++_, append-nil}
 use native.Mathlib.Nat.{le-of-suc-le-suc, not-suc-le-zero}
 use native.Mathlib.Omega.{arith}
-use lib.ListN.{length, take, drop, getD, set, replicate, length-drop, length-replicate}
-use lib.Seq.{drop-drop, length-take-le, take-all}
+use lib.ListN.{length, take, drop, getD, set, replicate, length-drop, length-replicate, take-append-drop}
+use lib.Seq.{drop-at, drop-drop, length-take-le, take-all, take-at}
 use Rattle.base.proofs.Places.{fill-more}
-use Rattle.hadlephoga.specs.Records.{pieces}
+use Rattle.deal.specs.Lists.{listLimit}
+use Rattle.hadlephoga.specs.Records.{inOrder, pieces}
 
-length-pieces : (width k : ℕ) (ns : List ℕ) → length (pieces width k ns) ≡ k
+pub length-pieces : (width k : ℕ) (ns : List ℕ) → length (pieces width k ns) ≡ k
 unfolding pieces
 length-pieces width zero ns = refl
 length-pieces width (suc k) ns = ap suc (length-pieces width k (drop width ns))
@@ -36,13 +37,34 @@ part-wide width ns at h =
 module _ {A : Type 0} (f : List ℕ → A) (none : A) (width : ℕ) (ns : List ℕ) where
   -- places filled from the first i pieces
   abbrev pub Filled : List A → ℕ → Type 0
-  Filled items i = items ≡ map f (take i (pieces width 16 ns)) ++ drop i (replicate 16 none)
+  Filled items i = items ≡ map f (take i (pieces width listLimit ns)) ++ drop i (replicate listLimit none)
 
-  pub place-filled : (items : List A) (i : ℕ) (x : A) → i < 16 → Filled items i → x ≡ f (part width ns (i * width)) → Filled (set items i x) (i + 1)
+  pub place-filled : (items : List A) (i : ℕ) (x : A) → i < listLimit → Filled items i → x ≡ f (part width ns (i * width)) → Filled (set items i x) (i + 1)
   place-filled items i x h filled e =
       let n : i * width + width - i * width ≡ width = omega arith in
-      let here : x ≡ f (getD (pieces width 16 ns) i []) = e ∙ ap f (rw n (sym (piece-at width 16 ns i h))) in
-      rw (filled, here) (fill-more f [] i (pieces width 16 ns) (replicate 16 none) (omega (arith, h, length-pieces width 16 ns)) (omega (arith, h, length-replicate 16 none)))
+      let here : x ≡ f (getD (pieces width listLimit ns) i []) = e ∙ ap f (rw n (sym (piece-at width listLimit ns i h))) in
+      rw (filled, here) (fill-more f [] i (pieces width listLimit ns) (replicate listLimit none) (omega (arith, h, length-pieces width listLimit ns)) (omega (arith, h, length-replicate listLimit none)))
 
-  pub all-filled : (items : List A) (i : ℕ) → i ≡ 16 → Filled items i → items ≡ map f (pieces width 16 ns)
-  all-filled items i e filled = filled ∙ rw (e, take-all 16 (pieces width 16 ns) (omega (arith, length-pieces width 16 ns))) (append-nil _)
+  pub all-filled : (items : List A) (i : ℕ) → i ≡ listLimit → Filled items i → items ≡ map f (pieces width listLimit ns)
+  all-filled items i e filled = filled ∙ rw (e, take-all listLimit (pieces width listLimit ns) (omega (arith, length-pieces width listLimit ns))) (append-nil _)
+
+-- what is written for each element, one behind the other, and read from the pieces
+module _ {A : Type 0} (write : A → List ℕ) (read : List ℕ → A) (width : ℕ) where
+  pub read-back : ((x : A) → length (write x) ≡ width) → ((x : A) → read (write x) ≡ x) → (xs : List A) →
+      map read (pieces width (length xs) (inOrder write xs)) ≡ xs
+  unfolding pieces inOrder
+  read-back wide back [] = refl
+  read-back wide back (x ∷ xs) =
+      rw (take-at (write x) (inOrder write xs) width (wide x), drop-at (write x) (inOrder write xs) width (wide x), back x, read-back wide back xs)
+
+  pub written-back : ((ns : List ℕ) → length ns ≡ width → write (read ns) ≡ ns) → (k : ℕ) (ns : List ℕ) → length ns ≡ k * width →
+      inOrder write (map read (pieces width k ns)) ≡ ns
+  unfolding pieces inOrder
+  written-back forth zero [] e = refl
+  written-back forth zero (n ∷ ns) e = absurd (omega (arith, e))
+  written-back forth (suc k) ns e =
+      rw (
+        forth (take width ns) (length-take-le width ns (omega (arith, e))),
+        written-back forth k (drop width ns) (length-drop width ns ∙ omega (arith, e)),
+      )
+      (take-append-drop width ns)

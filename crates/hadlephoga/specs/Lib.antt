@@ -1,2 +1,3 @@
+pub mod Operations
 pub mod Records
 pub mod Reports

@@ -1,22 +1,18 @@
 -- Reporting a deal to callers in other languages, as numbers. 01: Reporting a deal
-use Prim.Native.Nat.{ℕ}
+use Prim.Native.Nat.{ℕ, _+_, _*_}
 use mathlib.Core.List.{List, [], _∷_, _++_}
 use lib.Dec.{eqb, ltb}
 use lib.ListN.{length}
 use Rattle.base.specs.Choice.{if_then_else_}
 use Rattle.deal.specs.Answers.{answerNumber}
+use Rattle.deal.specs.Lists.{listLimit}
 use Rattle.relief.specs.Outcomes.{outcomeGround, outcomeValue}
 use Rattle.relief.specs.Report.{refusedReport, reportOf}
 use Rattle.relief.specs.declared.collateral.CollateralReport.{CollateralReport}
 use Rattle.relief.specs.declared.guarantee.GuaranteeReport.{GuaranteeReport}
 use Rattle.relief.specs.declared.report.Report.{Report}
 use Rattle.book.specs.Book.{overwrite}
-use Rattle.hadlephoga.specs.Records.{dealIn, recordLength}
-
--- for each of a list's elements its numbers, one behind the other
-unfoldable pub inOrder : {A : Type 0} → (A → List ℕ) → List A → List ℕ
-inOrder f [] = []
-inOrder f (x ∷ xs) = f x ++ inOrder f xs
+use Rattle.hadlephoga.specs.Records.{dealIn, inOrder, recordLength}
 
 -- "for each item either its value or its ground": the value and the ground's number, at most one of which is not 0
 abbrev pub collateralNumbers : CollateralReport → List ℕ
@@ -26,13 +22,30 @@ collateralNumbers c = outcomeValue (c .outcome) ∷ outcomeGround (c .outcome) �
 abbrev pub guaranteeNumbers : GuaranteeReport → List ℕ
 guaranteeNumbers g = outcomeValue (g .outcome) ∷ outcomeGround (g .outcome) ∷ g .portion ∷ []
 
--- E*; two numbers for each of sixteen places of collateral; three for each of sixteen of guarantees; the rest; the weighted amount
+-- how many numbers those are, for one item and for a list's sixteen places
+abbrev pub outcomeWidth : ℕ
+outcomeWidth = 2
+
+abbrev pub coverWidth : ℕ
+coverWidth = outcomeWidth + 1
+
+abbrev pub outcomesLength : ℕ
+outcomesLength = listLimit * outcomeWidth
+
+abbrev pub coversLength : ℕ
+coversLength = listLimit * coverWidth
+
+-- E*; the places of collateral; those of guarantees; the rest; the weighted amount
 abbrev pub reportLength : ℕ
-reportLength = 83
+reportLength = 1 + outcomesLength + coversLength + 1 + 1
 
 unfoldable pub reportNumbers : Report → List ℕ
 reportNumbers r =
-    r .exposure ∷ (inOrder collateralNumbers (r .collateral) ++ inOrder guaranteeNumbers (r .guarantees) ++ r .uncovered ∷ r .rwa ∷ [])
+    (r .exposure ∷ [])
+    ++ inOrder collateralNumbers (r .collateral)
+    ++ inOrder guaranteeNumbers (r .guarantees)
+    ++ (r .uncovered ∷ [])
+    ++ (r .rwa ∷ [])
 
 -- Of lists of another length than a record's or a report's the paper says nothing. Here numbers that are no record get the reply of a
 -- record that is not accepted

@@ -1,17 +1,28 @@
-// The proved library for programs in other languages: answering a book, and reporting a deal. Numbers and slices only, and
-// nothing is asked of the caller's numbers: whatever they are, the answer is a figure or a refusal.
+// The proved library for programs in other languages: answering a book, opening a deal, adding an item to it, and reporting it. Numbers
+// and slices only, and nothing is asked of the caller's numbers: whatever they are, the answer is a figure or a refusal.
 ghost use mathlib.Core.Path.{_≡_};
 ghost use lib.ListN.{length};
 ghost use Rattle.book.specs.Book.{bookReply, resultsAfter};
+ghost use Rattle.hadlephoga.specs.Operations.{addingCollateralRefusal, addingGuaranteeRefusal, listOpened, numbersWithCollateral, numbersWithGuarantee, openingRefusalOf};
 ghost use Rattle.hadlephoga.specs.Reports.{listAfter, reportingRefusal};
 
+mod adding;
+mod lent;
+mod opening;
 mod record;
 mod report;
+mod writing;
 
+use adding::add_collateral;
+use adding::add_guarantee;
 use book::answer::answer_book;
+use opening::open_record;
 use record::report_in;
 use report::REPORT_LENGTH;
 use report::put_report;
+
+// What lists of numbers are refused with: a wrong number of fields, and a lent list that is too short.
+const MALFORMED: u64 = 11;
 
 const LIST_TOO_SHORT: u64 = 13;
 
@@ -25,6 +36,33 @@ pub extern "C" fn hadlephoga_answer_book(book: &[u8], results: &mut [u64], deals
     let reply = answer_book(book, results);
     *deals = reply.deals as u64;
     reply.refusal
+}
+
+// Opening a deal: 13 where the list is too short for a record, otherwise 11, the refusal or 0, and the record's numbers in the list.
+#[no_mangle]
+pub extern "C" fn hadlephoga_open_deal(terms: &[u64], record: &mut [u64]) -> u64
+    ensures { λ r. ⌜ r ≡ openingRefusalOf (now (terms .entry)) (length (now («record» .entry))) ⌝ }
+    ensures { λ _. ⌜ now («record» .exit) ≡ listOpened (now (terms .entry)) (now («record» .entry)) ⌝ }
+{
+    open_record(terms, record)
+}
+
+// Adding an item of collateral: 11, the refusal or 0; the record is changed only with 0.
+#[no_mangle]
+pub extern "C" fn hadlephoga_add_collateral(record: &mut [u64], item: &[u64]) -> u64
+    ensures { λ r. ⌜ r ≡ addingCollateralRefusal (now («record» .entry)) (now (item .entry)) ⌝ }
+    ensures { λ _. ⌜ now («record» .exit) ≡ numbersWithCollateral (now («record» .entry)) (now (item .entry)) ⌝ }
+{
+    add_collateral(record, item)
+}
+
+// Adding a guarantee, likewise.
+#[no_mangle]
+pub extern "C" fn hadlephoga_add_guarantee(record: &mut [u64], item: &[u64]) -> u64
+    ensures { λ r. ⌜ r ≡ addingGuaranteeRefusal (now («record» .entry)) (now (item .entry)) ⌝ }
+    ensures { λ _. ⌜ now («record» .exit) ≡ numbersWithGuarantee (now («record» .entry)) (now (item .entry)) ⌝ }
+{
+    add_guarantee(record, item)
 }
 
 // Reporting a deal: 13 where the list is too short for a report, otherwise the refusal or 0, and the report's numbers in the list.

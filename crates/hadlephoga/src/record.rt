@@ -4,7 +4,7 @@ ghost use mathlib.Core.List.{map};
 ghost use lib.ListN.{length};
 ghost use Rattle.deal.specs.Fields.{collateralIn, collateralWidth, guaranteeIn, guaranteeWidth};
 ghost use Rattle.deal.specs.Lists.{listLimit};
-ghost use Rattle.hadlephoga.specs.Records.{dealIn, pieces, recordLength};
+ghost use Rattle.hadlephoga.specs.Records.{collateralLength, dealIn, guaranteesLength, pieces, recordLength};
 ghost use Rattle.hadlephoga.specs.Reports.{reportIn};
 use deal::collateral::Collateral;
 use deal::collateral::CollateralList;
@@ -19,24 +19,29 @@ use deal::guarantee::Guarantee;
 use deal::guarantee::GuaranteeList;
 use relief::report::Report;
 
-const RECORD_LENGTH: usize = 332;
+// The numbers of a list's places.
+const COLLATERAL_LENGTH: usize = Deal::COLLATERAL_LIMIT * COLLATERAL_WIDTH;
 
-// Where the parts stand.
-const COLLATERAL_COUNT: usize = 10;
+const GUARANTEES_LENGTH: usize = Deal::GUARANTEE_LIMIT * GUARANTEE_WIDTH;
 
-const FIRST_COLLATERAL: usize = 11;
+// Where the parts stand: the terms, and behind them each list's count and places.
+const COLLATERAL_COUNT: usize = TERMS_WIDTH;
 
-const GUARANTEE_COUNT: usize = 187;
+const FIRST_COLLATERAL: usize = COLLATERAL_COUNT + 1;
 
-const FIRST_GUARANTEE: usize = 188;
+const GUARANTEE_COUNT: usize = FIRST_COLLATERAL + COLLATERAL_LENGTH;
 
-fn collateral_items(numbers: &[u64]) -> [Collateral; 16]
-    requires { ⌜ length (now numbers) ≡ 176 ⌝ }
+const FIRST_GUARANTEE: usize = GUARANTEE_COUNT + 1;
+
+pub const RECORD_LENGTH: usize = FIRST_GUARANTEE + GUARANTEES_LENGTH;
+
+fn collateral_items(numbers: &[u64]) -> [Collateral; Deal::COLLATERAL_LIMIT]
+    requires { ⌜ length (now numbers) ≡ collateralLength ⌝ }
     ensures { λ r. ⌜ r ≡ map collateralIn (pieces collateralWidth listLimit (now (numbers .entry))) ⌝ }
 {
-    let mut items = [Collateral::ZERO; 16];
+    let mut items = [Collateral::ZERO; Deal::COLLATERAL_LIMIT];
     let mut i: usize = 0;
-    while i < 16 {
+    while i < Deal::COLLATERAL_LIMIT {
         let at = i * COLLATERAL_WIDTH;
         let end = at + COLLATERAL_WIDTH;
         items[i] = collateral_in(&numbers[at..end]);
@@ -45,13 +50,13 @@ fn collateral_items(numbers: &[u64]) -> [Collateral; 16]
     items
 }
 
-fn guarantee_items(numbers: &[u64]) -> [Guarantee; 16]
-    requires { ⌜ length (now numbers) ≡ 144 ⌝ }
+fn guarantee_items(numbers: &[u64]) -> [Guarantee; Deal::GUARANTEE_LIMIT]
+    requires { ⌜ length (now numbers) ≡ guaranteesLength ⌝ }
     ensures { λ r. ⌜ r ≡ map guaranteeIn (pieces guaranteeWidth listLimit (now (numbers .entry))) ⌝ }
 {
-    let mut items = [Guarantee::ZERO; 16];
+    let mut items = [Guarantee::ZERO; Deal::GUARANTEE_LIMIT];
     let mut i: usize = 0;
-    while i < 16 {
+    while i < Deal::GUARANTEE_LIMIT {
         let at = i * GUARANTEE_WIDTH;
         let end = at + GUARANTEE_WIDTH;
         items[i] = guarantee_in(&numbers[at..end]);
@@ -60,7 +65,7 @@ fn guarantee_items(numbers: &[u64]) -> [Guarantee; 16]
     items
 }
 
-fn deal_in(numbers: &[u64]) -> Deal
+pub fn deal_in(numbers: &[u64]) -> Deal
     requires { ⌜ length (now numbers) ≡ recordLength ⌝ }
     ensures { λ r. ⌜ r ≡ dealIn (now (numbers .entry)) ⌝ }
 {
@@ -84,7 +89,7 @@ fn deal_in(numbers: &[u64]) -> Deal
     }
 }
 
-// The report of the record that these numbers are; where they are not 332, the reply to a record that is not accepted.
+// The report of the record that these numbers are; where they are no record, the reply to a record that is not accepted.
 pub fn report_in(numbers: &[u64]) -> Report
     ensures { λ r. ⌜ r ≡ reportIn (now (numbers .entry)) ⌝ }
 {

@@ -6,38 +6,47 @@ ghost use lib.ListN.{length};
 ghost use Rattle.book.specs.Book.{overwrite};
 ghost use Rattle.result.specs.Placed.{Placed};
 ghost use Rattle.relief.specs.Outcomes.{outcomeGround, outcomeValue};
-ghost use Rattle.hadlephoga.specs.Reports.{collateralNumbers, guaranteeNumbers, inOrder, reportLength, reportNumbers};
+ghost use Rattle.hadlephoga.specs.Records.{inOrder};
+ghost use Rattle.hadlephoga.specs.Reports.{collateralNumbers, coverWidth, coversLength, guaranteeNumbers, outcomeWidth, outcomesLength, reportLength, reportNumbers};
+use crate::lent::put_number;
+use deal::deal::Deal;
 use relief::collateral::CollateralReport;
 use relief::guarantee::GuaranteeReport;
 use relief::outcome::Outcome;
 use relief::report::Report;
 
-pub const REPORT_LENGTH: usize = 83;
+// The numbers of an item's outcome, and of a guarantee's with its portion.
+const OUTCOME_WIDTH: usize = 2;
 
-fn put_number(list: &mut [u64], at: usize, number: u64) -> usize
-    requires { ⌜ at + 1 ≤ length (now list) ⌝ }
-    ensures { λ r. ⌜ Placed at (number ∷ []) (now (list .entry)) (now (list .exit)) r ⌝ }
-{
-    list[at] = number;
-    at + 1
-}
+const COVER_WIDTH: usize = OUTCOME_WIDTH + 1;
+
+// The exposure, the places of both lists, the rest and the weighted amount.
+pub const REPORT_LENGTH: usize = 1
+    + Deal::COLLATERAL_LIMIT * OUTCOME_WIDTH
+    + Deal::GUARANTEE_LIMIT * COVER_WIDTH
+    + 1
+    + 1;
 
 // The value and the ground's number.
 fn put_outcome(list: &mut [u64], at: usize, outcome: Outcome) -> usize
-    requires { ⌜ at + 2 ≤ length (now list) ⌝ }
+    requires { ⌜ at + outcomeWidth ≤ length (now list) ⌝ }
     ensures { λ r. ⌜ Placed at (outcomeValue outcome ∷ outcomeGround outcome ∷ []) (now (list .entry)) (now (list .exit)) r ⌝ }
 {
     let next = put_number(list, at, outcome.value());
     put_number(list, next, outcome.ground_number())
 }
 
-fn put_collateral(list: &mut [u64], at: usize, reports: [CollateralReport; 16]) -> usize
-    requires { ⌜ at + 32 ≤ length (now list) ⌝ }
+fn put_collateral(
+    list: &mut [u64],
+    at: usize,
+    reports: [CollateralReport; Deal::COLLATERAL_LIMIT],
+) -> usize
+    requires { ⌜ at + outcomesLength ≤ length (now list) ⌝ }
     ensures { λ r. ⌜ Placed at (inOrder collateralNumbers reports) (now (list .entry)) (now (list .exit)) r ⌝ }
 {
     let mut place = at;
     let mut i: usize = 0;
-    while i < 16 {
+    while i < Deal::COLLATERAL_LIMIT {
         let report = reports[i];
         let outcome = report.outcome;
         place = put_outcome(list, place, outcome);
@@ -48,7 +57,7 @@ fn put_collateral(list: &mut [u64], at: usize, reports: [CollateralReport; 16]) 
 
 // The outcome and the portion.
 fn put_guarantee(list: &mut [u64], at: usize, report: GuaranteeReport) -> usize
-    requires { ⌜ at + 3 ≤ length (now list) ⌝ }
+    requires { ⌜ at + coverWidth ≤ length (now list) ⌝ }
     ensures { λ r. ⌜ Placed at (guaranteeNumbers report) (now (list .entry)) (now (list .exit)) r ⌝ }
 {
     let outcome = report.outcome;
@@ -56,13 +65,17 @@ fn put_guarantee(list: &mut [u64], at: usize, report: GuaranteeReport) -> usize
     put_number(list, next, report.portion)
 }
 
-fn put_guarantees(list: &mut [u64], at: usize, reports: [GuaranteeReport; 16]) -> usize
-    requires { ⌜ at + 48 ≤ length (now list) ⌝ }
+fn put_guarantees(
+    list: &mut [u64],
+    at: usize,
+    reports: [GuaranteeReport; Deal::GUARANTEE_LIMIT],
+) -> usize
+    requires { ⌜ at + coversLength ≤ length (now list) ⌝ }
     ensures { λ r. ⌜ Placed at (inOrder guaranteeNumbers reports) (now (list .entry)) (now (list .exit)) r ⌝ }
 {
     let mut place = at;
     let mut i: usize = 0;
-    while i < 16 {
+    while i < Deal::GUARANTEE_LIMIT {
         let report = reports[i];
         place = put_guarantee(list, place, report);
         i += 1;

@@ -77,7 +77,7 @@ lines-read :
     ∷ []
     )
     ≡ said
-unfolding lineOf dealLine collateralLine guaranteeLine termsIn collateralIn guaranteeIn ifRead fieldsOf withNumber andThen isEnd fieldOf numberOf numberRead numberAllowed digitsOf decimalFrom within if_then_else_
+unfolding lineOf dealLine collateralLine guaranteeLine ifRead fieldsOf withNumber andThen isEnd fieldOf numberOf numberRead numberAllowed digitsOf decimalFrom within if_then_else_
 lines-read = refl
 
 -- "unknown letter, wrong number of fields, bad number, or no line feed"
@@ -107,7 +107,7 @@ ill =
     ∷ []
 
 all-malformed : map lineOf ill ≡ replicate 16 Malformed
-unfolding lineOf dealLine collateralLine guaranteeLine termsIn collateralIn guaranteeIn ifRead fieldsOf withNumber andThen isEnd fieldOf numberOf numberRead numberAllowed digitsOf decimalFrom within if_then_else_
+unfolding lineOf dealLine collateralLine guaranteeLine ifRead fieldsOf withNumber andThen isEnd fieldOf numberOf numberRead numberAllowed digitsOf decimalFrom within if_then_else_
 all-malformed = refl
 
 -- each field in its place, and none cut to a narrower width
@@ -141,7 +141,7 @@ fields-in-place :
       «not_in_rating» = 9123456789008;
     })
     ∷ []
-unfolding lineOf dealLine collateralLine guaranteeLine termsIn collateralIn guaranteeIn ifRead fieldsOf withNumber andThen isEnd fieldOf numberOf numberRead numberAllowed digitsOf decimalFrom within if_then_else_
+unfolding lineOf dealLine collateralLine guaranteeLine ifRead fieldsOf withNumber andThen isEnd fieldOf numberOf numberRead numberAllowed digitsOf decimalFrom within if_then_else_
 fields-in-place = refl
 
 -- of all bytes the tab alone parts fields, and the line feed alone ends them, with nothing before it

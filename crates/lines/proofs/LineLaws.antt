@@ -33,13 +33,13 @@ held said same none = refl
 held said same (some vs) = same vs
 
 pub deal-held : (o : Option (List ℕ)) → ifHeld dealLine (fieldsHeld o) ≡ ifRead dealLine o
-unfolding dealLine termsIn
+unfolding dealLine
 deal-held = held dealLine (λ vs. simp (held-at vs))
 
 pub collateral-held : (o : Option (List ℕ)) → ifHeld collateralLine (fieldsHeld o) ≡ ifRead collateralLine o
-unfolding collateralLine collateralIn
+unfolding collateralLine
 collateral-held = held collateralLine (λ vs. simp (held-at vs))
 
 pub guarantee-held : (o : Option (List ℕ)) → ifHeld guaranteeLine (fieldsHeld o) ≡ ifRead guaranteeLine o
-unfolding guaranteeLine guaranteeIn
+unfolding guaranteeLine
 guarantee-held = held guaranteeLine (λ vs. simp (held-at vs))

@@ -1,6 +1,9 @@
-//! Answers the sample book of document 01 and reports a deal of its own.
+//! Answers the sample book of document 01, and builds and reports a deal of its
+//! own.
 
-use hadlephoga::{answer_book, report, Collateral, Outcome, Record, Refusal, Terms, ANSWER_LENGTH};
+use hadlephoga::{
+    add_collateral, answer_book, open, report, Collateral, Outcome, Refusal, Terms, ANSWER_LENGTH,
+};
 
 const SAMPLE: &[u8] = b"CRM\t1\n\
     D\t1000000\t3\t0\t978\t3\t1\t1800\t1\t0\t0\n\
@@ -54,7 +57,15 @@ fn main() -> Result<(), Refusal> {
         residual_term: 90,
         ..bond
     };
-    let report = report(&Record::new(loan, &[bond, short], &[]))?;
+    let mut deal = open(&loan)?;
+    add_collateral(&mut deal, &bond)?;
+    add_collateral(&mut deal, &short)?;
+    // A refusal names the test and leaves the deal as it was.
+    let unknown = Collateral { goods: 10, ..bond };
+    if let Err(refusal) = add_collateral(&mut deal, &unknown) {
+        println!("not added, {refusal}");
+    }
+    let report = report(&deal)?;
     println!("exposure after collateral: {}", report.exposure);
     for outcome in &report.collateral[..2] {
         match outcome {

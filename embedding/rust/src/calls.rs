@@ -1,6 +1,6 @@
-//! The two calls, and the only unsafe code.
+//! The calls, and the only unsafe code.
 
-use crate::{Record, Refusal, Report, REPORT_LENGTH};
+use crate::{Collateral, Guarantee, Record, Refusal, Report, Terms, RECORD_LENGTH, REPORT_LENGTH};
 
 /// Bytes of the longest book.
 pub const BOOK_LIMIT: usize = 65_536;
@@ -15,6 +15,24 @@ extern "C" {
         results: *mut u64,
         results_length: usize,
         deals: *mut u64,
+    ) -> u64;
+    fn hadlephoga_open_deal(
+        terms: *const u64,
+        terms_length: usize,
+        record: *mut u64,
+        record_length: usize,
+    ) -> u64;
+    fn hadlephoga_add_collateral(
+        record: *mut u64,
+        record_length: usize,
+        item: *const u64,
+        item_length: usize,
+    ) -> u64;
+    fn hadlephoga_add_guarantee(
+        record: *mut u64,
+        record_length: usize,
+        item: *const u64,
+        item_length: usize,
     ) -> u64;
     fn hadlephoga_report_deal(
         record: *const u64,
@@ -65,10 +83,82 @@ pub fn answer_book_numbers(book: &[u8], results: &mut [u64]) -> BookReply {
     BookReply { refusal, deals }
 }
 
+/// Opens a deal on terms given as numbers, in the layout of
+/// [`Terms::to_numbers`], into a list in the layout of [`Record::to_numbers`].
+/// Returns 13 where `record` has fewer numbers than a record (nothing is
+/// written), else 11 where `terms` has not exactly theirs, else 1 to 5 or 0. The
+/// record is written from the front, zeros with a refusal, and nothing behind it.
+pub fn open_numbers(terms: &[u64], record: &mut [u64]) -> u64 {
+    // SAFETY: each pointer and length are those of a slice that lives through
+    // the call; `record` is borrowed alone, so it does not overlap `terms`.
+    // The library reads and writes inside the lengths it is given.
+    unsafe {
+        hadlephoga_open_deal(
+            terms.as_ptr(),
+            terms.len(),
+            record.as_mut_ptr(),
+            record.len(),
+        )
+    }
+}
+
+/// Opens a deal with empty lists; refused with 1 to 5.
+pub fn open(terms: &Terms) -> Result<Record, Refusal> {
+    let mut numbers = [0; RECORD_LENGTH];
+    match open_numbers(&terms.to_numbers(), &mut numbers) {
+        0 => Ok(Record::from_numbers(&numbers)),
+        refusal => Err(Refusal(refusal)),
+    }
+}
+
+/// Adds an item, given as numbers in the layout of [`Collateral::to_numbers`],
+/// to a record of numbers. Returns 11 where `item` has not exactly its numbers,
+/// else 40 where `record` has not exactly a record's or is not accepted, else 6,
+/// 1 to 5, 7, 8 or 0. With a refusal `record` is untouched.
+pub fn add_collateral_numbers(record: &mut [u64], item: &[u64]) -> u64 {
+    // SAFETY: as in `open_numbers`, with `record` borrowed alone.
+    unsafe {
+        hadlephoga_add_collateral(record.as_mut_ptr(), record.len(), item.as_ptr(), item.len())
+    }
+}
+
+/// [`add_collateral_numbers`] of a guarantee, in the layout of
+/// [`Guarantee::to_numbers`].
+pub fn add_guarantee_numbers(record: &mut [u64], item: &[u64]) -> u64 {
+    // SAFETY: as in `open_numbers`, with `record` borrowed alone.
+    unsafe {
+        hadlephoga_add_guarantee(record.as_mut_ptr(), record.len(), item.as_ptr(), item.len())
+    }
+}
+
+/// Adds an item of collateral; refused with 40, 6, 1 to 5, 7 or 8, which leaves
+/// the record as it was.
+pub fn add_collateral(record: &mut Record, item: &Collateral) -> Result<(), Refusal> {
+    let mut numbers = record.to_numbers();
+    let refusal = add_collateral_numbers(&mut numbers, &item.to_numbers());
+    added(record, &numbers, refusal)
+}
+
+/// Adds a guarantee; refused as [`add_collateral`] is.
+pub fn add_guarantee(record: &mut Record, item: &Guarantee) -> Result<(), Refusal> {
+    let mut numbers = record.to_numbers();
+    let refusal = add_guarantee_numbers(&mut numbers, &item.to_numbers());
+    added(record, &numbers, refusal)
+}
+
+fn added(record: &mut Record, numbers: &[u64; RECORD_LENGTH], refusal: u64) -> Result<(), Refusal> {
+    if refusal != 0 {
+        return Err(Refusal(refusal));
+    }
+    *record = Record::from_numbers(numbers);
+    Ok(())
+}
+
 /// Reports a deal given as numbers, in the layout of [`Record::to_numbers`],
 /// into a list in the layout of [`Report::from_numbers`]. Returns 13 where
-/// `report` has fewer than 83 numbers (nothing is written), else 40 where
-/// `record` has not exactly 332 or is not accepted (83 zeros are written), else 0.
+/// `report` has fewer numbers than a report (nothing is written), else 40 where
+/// `record` has not exactly a record's or is not accepted (a report of zeros is
+/// written), else 0.
 pub fn report_numbers(record: &[u64], report: &mut [u64]) -> u64 {
     // SAFETY: each pointer and length are those of a slice that lives through
     // the call; `report` is borrowed alone, so it does not overlap `record`.

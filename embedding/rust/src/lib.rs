@@ -1,8 +1,9 @@
 //! Safe calls into the proved calculator of credit-risk relief.
 //!
-//! A book of deals is answered by [`answer_book`], four numbers a deal; one
-//! deal is reported by [`report`], with the value or ground of every item. Both
-//! answer every input with figures or a [`Refusal`]; nothing panics.
+//! A book of deals is answered by [`answer_book`], four numbers a deal. One
+//! deal is opened by [`open`], gets its items by [`add_collateral`] and
+//! [`add_guarantee`], and is reported by [`report`], with the value or ground of
+//! every item. All answer every input with figures or a [`Refusal`]; nothing panics.
 //!
 //! ```
 //! let book = b"CRM\t1\nD\t900\t4\t0\t978\t3\t1\t90\t1\t0\t0\n";
@@ -18,8 +19,10 @@ mod refusal;
 mod report;
 
 pub use calls::{
-    answer_book, answer_book_numbers, report, report_numbers, BookReply, ANSWER_LENGTH, BOOK_LIMIT,
+    add_collateral, add_collateral_numbers, add_guarantee, add_guarantee_numbers, answer_book,
+    answer_book_numbers, open, open_numbers, report, report_numbers, BookReply, ANSWER_LENGTH,
+    BOOK_LIMIT,
 };
 pub use record::{Collateral, Guarantee, Record, Terms, ITEMS, RECORD_LENGTH};
 pub use refusal::Refusal;
-pub use report::{Cover, Ground, Outcome, Report, REPORT_LENGTH};
+pub use report::{Cover, Ground, Outcome, Report, COVER_WIDTH, OUTCOME_WIDTH, REPORT_LENGTH};

@@ -2,7 +2,7 @@
 //! struct, its layout and both directions.
 
 macro_rules! numbers {
-    ($(#[$about:meta])* $name:ident: $length:literal { $($(#[$field_about:meta])* $field:ident,)* }) => {
+    ($(#[$about:meta])* $name:ident { $($(#[$field_about:meta])* $field:ident,)* }) => {
         $(#[$about])*
         #[derive(Clone, Copy, Debug, Default, PartialEq, Eq)]
         pub struct $name {
@@ -11,15 +11,15 @@ macro_rules! numbers {
 
         impl $name {
             /// How many numbers it is.
-            pub const LENGTH: usize = $length;
+            pub const LENGTH: usize = [$(stringify!($field),)*].len();
 
             /// Its fields in order.
-            pub fn to_numbers(&self) -> [u64; $length] {
+            pub fn to_numbers(&self) -> [u64; Self::LENGTH] {
                 [$(self.$field,)*]
             }
 
             /// From its fields in order.
-            pub fn from_numbers(numbers: &[u64; $length]) -> Self {
+            pub fn from_numbers(numbers: &[u64; Self::LENGTH]) -> Self {
                 let [$($field,)*] = *numbers;
                 Self { $($field,)* }
             }

@@ -11,7 +11,7 @@ pub const RECORD_LENGTH: usize =
 
 numbers! {
     /// The terms of a deal.
-    Terms: 10 {
+    Terms {
         amount,
         /// Of the counterparty: 1 sovereign, 2 bank, 3 corporate, 4 retail.
         class,
@@ -31,7 +31,7 @@ numbers! {
 
 numbers! {
     /// An item of collateral.
-    Collateral: 11 {
+    Collateral {
         amount,
         /// 1 cash, 2 sovereign debt, 3 other issuers' debt, 4 bank debt, 5
         /// securitisation, 6 re-securitisation, 7 main index equity, 8 other
@@ -57,7 +57,7 @@ numbers! {
 
 numbers! {
     /// A guarantee.
-    Guarantee: 9 {
+    Guarantee {
         amount,
         /// Of the provider: 1 sovereign, 2 bank or securities firm, 3 other entity.
         class,

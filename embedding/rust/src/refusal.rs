@@ -3,7 +3,7 @@
 use std::fmt;
 
 /// The number of a refusal: 9, 10, 12, 13 of a book; 1 to 8 and 11 of a line
-/// in a book; 40 of a record.
+/// in a book, of opening and of adding; 40 of a record.
 #[derive(Clone, Copy, Debug, PartialEq, Eq)]
 pub struct Refusal(pub u64);
 

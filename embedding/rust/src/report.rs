@@ -5,8 +5,12 @@ use std::fmt;
 use crate::numbers::take;
 use crate::ITEMS;
 
+/// Numbers that report an item of collateral: its value and its ground.
+pub const OUTCOME_WIDTH: usize = 2;
+/// Numbers that report a guarantee: its portion besides.
+pub const COVER_WIDTH: usize = OUTCOME_WIDTH + 1;
 /// Numbers of a report.
-pub const REPORT_LENGTH: usize = 1 + ITEMS * 2 + ITEMS * 3 + 2;
+pub const REPORT_LENGTH: usize = 1 + ITEMS * OUTCOME_WIDTH + ITEMS * COVER_WIDTH + 2;
 
 /// The ground for leaving an item out, 21 to 29.
 #[derive(Clone, Copy, Debug, PartialEq, Eq)]

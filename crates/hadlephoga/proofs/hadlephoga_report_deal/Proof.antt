@@ -8,7 +8,7 @@ use Rattle.base.proofs.Choice.{if-true, if-false}
 use Rattle.base.proofs.Tests.{tests}
 use Rattle.deal.specs.Answers.{answerNumber}
 use Rattle.book.specs.Book.{overwrite}
-use Rattle.hadlephoga.specs.Reports.{listAfter, reportNumbers, reportingRefusal}
+use Rattle.hadlephoga.specs.Reports.{listAfter, reportLength, reportNumbers, reportingRefusal}
 use Rattle.hadlephoga.proofs.hadlephoga_report_deal.Statement.{statement}
 use Rattle.hadlephoga.proofs.hadlephoga_report_deal.Tie as tie
 
@@ -34,7 +34,7 @@ returns-2 c =
     let p = c .before .before .before in
     let r = p .before .before in
     let s = c .before .before .before .before .before .before .before .before .before in
-    let e : ltb (length (s .args .report .now)) 83 ≡ false = le-ltb _ _ (r .before .if1 .left) in
+    let e : ltb (length (s .args .report .now)) reportLength ≡ false = le-ltb _ _ (r .before .if1 .left) in
     let report = r .report-in .ensures in (
       c .number .ensures ∙ ap (λ x. answerNumber (x .answer)) report ∙ sym (if-false _ _ _ e),
       p .put-report .ensures ∙ ap (λ x. overwrite (reportNumbers x) (s .args .report .now)) report ∙ sym (if-false _ _ _ e),

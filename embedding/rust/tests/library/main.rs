@@ -2,6 +2,7 @@
 //! a link of its own.
 
 mod books;
+mod building;
 mod figures;
 mod grounds;
 mod records;

@@ -5,18 +5,19 @@ use lib.ListN.{length, take}
 use lib.Seq.{length-take-le}
 use Rattle.base.proofs.Tests.{tests}
 use Rattle.text.proofs.Lines.{rest-part}
+use Rattle.deal.specs.Fields.{termsWidth}
 use Rattle.hadlephoga.specs.Records.{dealIn}
 use Rattle.hadlephoga.proofs.record.deal_in.Statement.{statement}
 use Rattle.hadlephoga.proofs.record.deal_in.Tie as tie
 
-ten : (c : tie.After-terms-in-arg) → length (take 10 (c .before .before .args .numbers .now)) ≡ 10
-ten c = length-take-le 10 (c .before .before .args .numbers .now) (omega (arith, c .before .before .pre))
+wide : (c : tie.After-terms-in-arg) → length (take termsWidth (c .before .before .args .numbers .now)) ≡ termsWidth
+wide c = length-take-le termsWidth (c .before .before .args .numbers .now) (omega (arith, c .before .before .pre))
 
 slice-aggregate-terms-in : tie.Need-slice-aggregate-terms-in
-slice-aggregate-terms-in c = sym (ten c)
+slice-aggregate-terms-in c = sym (wide c)
 
 terms-in-requires : tie.Need-terms-in-requires
-terms-in-requires c κs = omega (arith, ten c)
+terms-in-requires c κs = omega (arith, wide c)
 
 mul-collateral-items : tie.Need-mul-collateral-items
 mul-collateral-items c = search tests

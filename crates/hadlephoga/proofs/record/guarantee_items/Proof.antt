@@ -3,16 +3,17 @@ use Prim.Native.Nat.{_*_, _-_, _≤_}
 use mathlib.Core.Path.{refl}
 use native.Mathlib.Omega.{arith}
 use Rattle.base.proofs.Tests.{tests}
-use Rattle.deal.specs.Fields.{zeroGuarantee, guaranteeIn}
+use Rattle.deal.specs.Fields.{zeroGuarantee, guaranteeIn, guaranteeWidth}
+use Rattle.deal.specs.Lists.{listLimit}
 use Rattle.hadlephoga.proofs.Pieces.{Filled, part-wide, place-filled, all-filled}
 use Rattle.hadlephoga.proofs.record.guarantee_items.Statement.{statement}
 use Rattle.hadlephoga.proofs.record.guarantee_items.Tie as tie
 
 abbrev Inv-loop : tie.InvT-loop
-Inv-loop numbers items₀ i₀ items i = (i ≤ 16) × Filled guaranteeIn zeroGuarantee 9 numbers items i
+Inv-loop numbers items₀ i₀ items i = (i ≤ listLimit) × Filled guaranteeIn zeroGuarantee guaranteeWidth numbers items i
 
 abbrev μ-loop : tie.MeasureT-loop
-μ-loop numbers items₀ i₀ items i = 16 - i
+μ-loop numbers items₀ i₀ items i = listLimit - i
 
 loop-holds : tie.Need-loop-holds Inv-loop μ-loop
 loop-holds c = (omega arith, refl)
@@ -38,7 +39,7 @@ part-guarantee-in-end c = search tests
 guarantee-in-requires : tie.Need-guarantee-in-requires Inv-loop μ-loop
 guarantee-in-requires c κs =
     let l = c .before .before in
-    part-wide 9 (l .before .before .args .numbers .now) (l .loop .i * 9) (omega (arith, l .before .before .pre))
+    part-wide guaranteeWidth (l .before .before .args .numbers .now) (l .loop .i * guaranteeWidth) (omega (arith, l .before .before .pre))
 
 mul-items : tie.Need-mul-items Inv-loop μ-loop
 mul-items c = search tests
@@ -55,12 +56,12 @@ loop-less c = search tests
 loop-again : tie.Need-loop-again Inv-loop μ-loop
 loop-again c =
     let l = c .before .before .before in
-    (omega arith, place-filled guaranteeIn zeroGuarantee 9 (l .before .before .args .numbers .now) (l .loop .items) (l .loop .i) (c .guarantee-in .result) (omega arith) (l .loop .inv .1) (c .guarantee-in .ensures))
+    (omega arith, place-filled guaranteeIn zeroGuarantee guaranteeWidth (l .before .before .args .numbers .now) (l .loop .items) (l .loop .i) (c .guarantee-in .result) (omega arith) (l .loop .inv .1) (c .guarantee-in .ensures))
 
 returns : tie.Need-returns Inv-loop μ-loop
 returns c =
     let l = c .before in
-    all-filled guaranteeIn zeroGuarantee 9 (l .before .before .args .numbers .now) (l .loop .items) (l .loop .i) (omega (arith, l .loop .inv .0)) (l .loop .inv .1)
+    all-filled guaranteeIn zeroGuarantee guaranteeWidth (l .before .before .args .numbers .now) (l .loop .items) (l .loop .i) (omega (arith, l .loop .inv .0)) (l .loop .inv .1)
 
 pub guarantee-items-spec : {M : Type 1} → statement M
 guarantee-items-spec =

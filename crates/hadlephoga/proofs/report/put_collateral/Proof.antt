@@ -5,19 +5,20 @@ use native.Mathlib.Omega.{arith}
 use lib.ListN.{length}
 use Rattle.base.proofs.Arrays.{unmapped}
 use Rattle.base.proofs.Tests.{tests}
+use Rattle.deal.specs.Lists.{listLimit}
 use Rattle.relief.specs.Report.{noCollateral}
-use Rattle.hadlephoga.specs.Reports.{collateralNumbers}
+use Rattle.hadlephoga.specs.Reports.{collateralNumbers, outcomeWidth}
 use Rattle.hadlephoga.proofs.Numbers.{Put, put-none, put-next, put-all}
 use Rattle.hadlephoga.proofs.report.put_collateral.Statement.{statement}
 use Rattle.hadlephoga.proofs.report.put_collateral.Tie as tie
 
 abbrev Inv-loop : tie.InvT-loop
-Inv-loop list₀ at reports place₀ i₀ list place i = Put collateralNumbers 2 reports list₀ at list place i
+Inv-loop list₀ at reports place₀ i₀ list place i = Put collateralNumbers outcomeWidth reports list₀ at list place i
 
 abbrev μ-loop : tie.MeasureT-loop
-μ-loop list₀ at reports place₀ i₀ list place i = 16 - i
+μ-loop list₀ at reports place₀ i₀ list place i = listLimit - i
 
-long : (c : tie.Start Inv-loop μ-loop) → length (c .args .t3) ≡ 16
+long : (c : tie.Start Inv-loop μ-loop) → length (c .args .t3) ≡ listLimit
 long c = search (unmapped, c .good)
 
 loop-holds : tie.Need-loop-holds Inv-loop μ-loop
@@ -45,7 +46,7 @@ loop-again c =
     let p = c .before .before in
     let l = p .before .before .before .before in
     let s = l .before .before in
-    put-next _ _ _ _ _ _ _ _ (l .loop .inv) noCollateral _ _ (long s) (omega arith) (omega (arith, s .pre)) refl (p .put-outcome .kept .0) (p .put-outcome .ensures)
+    put-next _ (l .loop .inv) noCollateral (omega (arith, long s)) (omega (arith, s .pre)) refl (p .put-outcome .kept .0) (p .put-outcome .ensures)
 
 same-length : tie.Need-same-length Inv-loop μ-loop
 same-length c = c .before .loop .inv .same
@@ -53,7 +54,7 @@ same-length c = c .before .loop .inv .same
 returns : tie.Need-returns Inv-loop μ-loop
 returns c =
     let l = c .before in
-    put-all _ _ _ _ _ _ _ _ (l .loop .inv) (long (l .before .before)) (omega (arith, l .loop .inv .inside))
+    put-all _ (l .loop .inv) (omega (arith, l .loop .inv .inside, long (l .before .before)))
 
 pub put-collateral-spec : {M : Type 1} → statement M
 put-collateral-spec =

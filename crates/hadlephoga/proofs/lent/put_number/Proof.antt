@@ -1,9 +1,9 @@
--- `hadlephoga::report::put_number` meets its contract: a store places one number. Assumes nothing.
+-- `hadlephoga::lent::put_number` meets its contract: a store places one number. Assumes nothing.
 use native.Mathlib.Omega.{arith}
 use Rattle.base.proofs.Tests.{tests}
 use Rattle.result.proofs.Placed.{placed-byte}
-use Rattle.hadlephoga.proofs.report.put_number.Statement.{statement}
-use Rattle.hadlephoga.proofs.report.put_number.Tie as tie
+use Rattle.hadlephoga.proofs.lent.put_number.Statement.{statement}
+use Rattle.hadlephoga.proofs.lent.put_number.Tie as tie
 
 mul-list : tie.Need-mul-list
 mul-list c = search tests

@@ -1,0 +1,192 @@
+//! Opening and adding on lists of numbers through both implementations, every
+//! number of the lists compared.
+
+use hadlephoga::{Record, ITEMS, RECORD_LENGTH};
+
+use crate::compare::{around, differ, Difference, Lent};
+use crate::random::Random;
+use crate::records::{self, changed, EDGES};
+use crate::sides::{reference_add, reference_open};
+use crate::tally::Tally;
+use crate::values;
+
+/// A call of the library on a record of numbers and an item of numbers.
+type Add = fn(&mut [u64], &[u64]) -> u64;
+
+/// One of each, on random and on damaged numbers.
+pub fn operations(random: &mut Random, tally: &mut Tally) -> Result<(), Difference> {
+    opening(random, tally)?;
+    let item = collateral(random);
+    let refusal = adding(
+        random,
+        "adding collateral",
+        &item,
+        [hadlephoga::add_collateral_numbers, add_collateral],
+        tally,
+    )?;
+    tally.added_collateral.meet(&[refusal]);
+    let item = guarantee(random);
+    let refusal = adding(
+        random,
+        "adding a guarantee",
+        &item,
+        [hadlephoga::add_guarantee_numbers, add_guarantee],
+        tally,
+    )?;
+    tally.added_guarantees.meet(&[refusal]);
+    Ok(())
+}
+
+fn add_collateral(record: &mut [u64], item: &[u64]) -> u64 {
+    reference_add(reference::add_collateral, record, item)
+}
+
+fn add_guarantee(record: &mut [u64], item: &[u64]) -> u64 {
+    reference_add(reference::add_guarantee, record, item)
+}
+
+fn opening(random: &mut Random, tally: &mut Tally) -> Result<(), Difference> {
+    let terms = values::terms(random).to_numbers();
+    let terms = damaged(random, b'D', terms);
+    let room = match random.percent(80) {
+        true => RECORD_LENGTH + random.index(3),
+        false => random.pick(&around(RECORD_LENGTH)),
+    };
+    let (mut proved, mut reference) = (Lent::new(room), Lent::new(room));
+    let proved_refusal = hadlephoga::open_numbers(&terms, proved.list());
+    let reference_refusal = reference_open(&terms, reference.list());
+    tally.numbers += 1 + room as u64;
+    if proved_refusal != reference_refusal || proved.numbers != reference.numbers {
+        return Err(differ(
+            "opening",
+            format!("terms {terms:?}, a list of {room}"),
+            (proved_refusal, proved.list()),
+            (reference_refusal, reference.list()),
+        ));
+    }
+    tally.opened.meet(&[proved_refusal]);
+    Ok(())
+}
+
+/// Both answers, by the library and by the second implementation.
+fn adding(
+    random: &mut Random,
+    about: &str,
+    item: &[u64],
+    [proved_add, reference_add]: [Add; 2],
+    tally: &mut Tally,
+) -> Result<u64, Difference> {
+    let numbers = record(random);
+    let (mut proved, mut reference) = (Lent::new(numbers.len()), Lent::new(numbers.len()));
+    proved.list().copy_from_slice(&numbers);
+    reference.list().copy_from_slice(&numbers);
+    let proved_refusal = proved_add(proved.list(), item);
+    let reference_refusal = reference_add(reference.list(), item);
+    tally.numbers += 1 + numbers.len() as u64;
+    if proved_refusal != reference_refusal || proved.numbers != reference.numbers {
+        return Err(differ(
+            about,
+            format!("record {numbers:?}\nitem {item:?}"),
+            (proved_refusal, proved.list()),
+            (reference_refusal, reference.list()),
+        ));
+    }
+    Ok(proved_refusal)
+}
+
+/// A record of any numbers, now and then of another length or with full lists.
+fn record(random: &mut Random) -> Vec<u64> {
+    let mut numbers = records::record(random);
+    if random.percent(10) {
+        let mut record = Record::from_numbers(&numbers);
+        let terms = values::terms(random);
+        record.terms = terms;
+        record.collateral = std::array::from_fn(|_| values::collateral(random, &terms, 16));
+        record.guarantees = std::array::from_fn(|_| values::guarantee(random, &terms, 16));
+        record.collateral_count = ITEMS as u64 - random.below(2);
+        record.guarantee_count = ITEMS as u64 - random.below(2);
+        numbers = record.to_numbers();
+    }
+    let mut numbers = numbers.to_vec();
+    if random.percent(3) {
+        numbers.resize(random.pick(&around(RECORD_LENGTH)), 1);
+    }
+    numbers
+}
+
+fn collateral(random: &mut Random) -> Vec<u64> {
+    let terms = values::terms(random);
+    let item = values::collateral(random, &terms, 1).to_numbers();
+    damaged(random, b'C', item)
+}
+
+fn guarantee(random: &mut Random) -> Vec<u64> {
+    let terms = values::terms(random);
+    let item = values::guarantee(random, &terms, 1).to_numbers();
+    damaged(random, b'G', item)
+}
+
+/// As they are, outside their ranges, any numbers, or too many or too few.
+fn damaged<const WIDTH: usize>(random: &mut Random, letter: u8, fields: [u64; WIDTH]) -> Vec<u64> {
+    let mut fields = match random.below(20) {
+        0..=8 => fields,
+        9..=18 => changed(random, letter, &fields),
+        _ => std::array::from_fn(|_| random.pick(EDGES)),
+    }
+    .to_vec();
+    if random.percent(5) {
+        fields.resize(random.pick(&around(WIDTH)), 1);
+    }
+    fields
+}
+
+/// An accepted deal, built by the library's opening and adding from nothing, is
+/// its record.
+pub fn built(record: &Record, tally: &mut Tally) -> Result<(), Difference> {
+    let mut numbers = [u64::MAX; RECORD_LENGTH];
+    let mut refusals = vec![hadlephoga::open_numbers(
+        &record.terms.to_numbers(),
+        &mut numbers,
+    )];
+    for item in &record.collateral[..record.collateral_count as usize] {
+        let item = item.to_numbers();
+        refusals.push(hadlephoga::add_collateral_numbers(&mut numbers, &item));
+    }
+    for item in &record.guarantees[..record.guarantee_count as usize] {
+        let item = item.to_numbers();
+        refusals.push(hadlephoga::add_guarantee_numbers(&mut numbers, &item));
+    }
+    tally.numbers += (refusals.len() + RECORD_LENGTH) as u64;
+    let expected = record.to_numbers();
+    if refusals.iter().any(|refusal| *refusal != 0) || numbers != expected {
+        return Err(differ(
+            "building a deal by opening and adding",
+            format!("record {expected:?}"),
+            (refusals, numbers),
+            expected,
+        ));
+    }
+    Ok(())
+}
+
+#[cfg(test)]
+mod tests {
+    use super::*;
+
+    #[test]
+    fn every_answer_is_met() {
+        let mut tally = Tally::new();
+        for number in 0..4000 {
+            let random = &mut Random::new(5, number);
+            assert!(operations(random, &mut tally).is_ok());
+        }
+        for cells in [
+            &tally.opened,
+            &tally.added_collateral,
+            &tally.added_guarantees,
+        ] {
+            assert_eq!(cells.met(), cells.all(), "{}", cells.title);
+            assert_eq!(cells.unlisted().count(), 0);
+        }
+    }
+}
