@@ -17,7 +17,8 @@ fn value(outcome: Outcome) -> u64 {
     }
 }
 
-/// Risk weights as the paper prints them, unrated in front.
+/// The paper's risk weights by step. The paper prints the unrated column last;
+/// here it is the first, step 0.
 fn weight(class: u64, step: u64) -> u64 {
     match class {
         1 => [100, 0, 20, 50, 100, 100, 150][step as usize],
