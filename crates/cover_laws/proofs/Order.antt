@@ -12,12 +12,12 @@ use borrow.Author.Tests.{leb-true, leb-false, eq-eqb, ne-eqb}
 use Rattle.base.specs.Choice.{if_then_else_}
 use Rattle.base.specs.Sum.{sumOf}
 use Rattle.base.proofs.Choice.{if-true, if-false}
 use Rattle.cover.specs.Cover.{lowerWeighted, before, portion, coveredAfter, covered}
-use Rattle.cover.specs.Layers.{Each}
-use Rattle.cover.specs.Sorted.{insert, sort, Rising, ofWeight, pass}
+use Rattle.cover.specs.Each.{Each}
+use Rattle.cover_laws.specs.Sorted.{insert, sort, Rising, ofWeight, pass}
 use Rattle.cover.specs.declared.protection.Protection.{Protection}
 use Rattle.cover.proofs.Levels.{lower-weighted-in, lower-weighted-out, lower-weighted-next, equal-out, before-none, before-next}
 use Rattle.cover.proofs.Portions.{piece}
 
 -- ---- the sort puts the weights in rising order, keeps the order of each weight, and so every sum
 each-insert : (P : Protection → Type 0) (p : Protection) (qs : List Protection) → P p → Each P qs → Each P (insert p qs)

@@ -3,8 +3,8 @@ use Prim.Native.Nat.{ℕ, _-_, _≤_, min}
 use mathlib.Core.List.{List, [], _∷_}
 use lib.Dec.{leb, eqb}
 use Rattle.base.specs.Choice.{if_then_else_}
-use Rattle.cover.specs.Layers.{Each}
+use Rattle.cover.specs.Each.{Each}
 use Rattle.cover.specs.declared.protection.Protection.{Protection}
 
 -- p was added before all of these: it goes before those of its own weight
 unfoldable pub insert : Protection → List Protection → List Protection

@@ -1,15 +1,12 @@
 -- The weighted sum by layers: each percent of the counterparty's weight is borne by what lower-weighted pieces leave uncovered.
 use Prim.Native.Nat.{ℕ, zero, suc, _+_, _-_, _<_}
 use mathlib.Core.Path.{_≡_}
-use mathlib.Core.List.{List, [], _∷_}
+use mathlib.Core.List.{List}
 use mathlib.Core.Logic.{_⊎_}
 use Rattle.base.specs.Sum.{sumOf}
 use Rattle.cover.specs.Cover.{lowerWeighted}
+use Rattle.cover.specs.Each.{Each}
 use Rattle.cover.specs.declared.protection.Protection.{Protection}
-
-abbrev pub Each : {A : Type 0} → (A → Type 0) → List A → Type 0
-Each P [] = Unit {0}
-Each P (x ∷ xs) = P x × Each P xs
 
 -- a guarantee that is worth 0, as one left out is, or that has a lower weight than the counterparty
 abbrev pub LeftOutOrLowerWeighted : ℕ → Protection → Type 0

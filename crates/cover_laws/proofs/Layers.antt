@@ -6,12 +6,13 @@ use mathlib.Core.Logic.{inl, inr, ⊎-elim}
 use native.Mathlib.Nat.{zero-sub}
 use native.Mathlib.Omega.{arith}
 use Rattle.base.specs.Sum.{sumOf}
-use Rattle.cover.specs.Cover.{lowerWeighted, covered, weightedSum}
-use Rattle.cover.specs.Layers.{Each, LeftOutOrLowerWeighted, EachLowerWeighted, sumBelow, layers}
+use Rattle.cover.specs.Cover.{lowerWeighted, portion, covered, weightedSum}
+use Rattle.cover.specs.Each.{Each}
+use Rattle.cover_laws.specs.Layers.{LeftOutOrLowerWeighted, EachLowerWeighted, sumBelow, layers}
 use Rattle.cover.specs.declared.protection.Protection.{Protection}
 use Rattle.cover.proofs.Levels.{side, lower-weighted-in, lower-weighted-out}
-use Rattle.cover.proofs.Portions.{zero-covers-zero, each-covered, filled, conserved}
-use Rattle.cover.proofs.SumBelow.{below-add, below-eq, below-same}
+use Rattle.cover.proofs.Portions.{each-covered, filled, conserved}
+use Rattle.cover_laws.proofs.SumBelow.{below-add, below-eq, below-same}
 
 pub each-map : {A B : Type 0} (P : B → Type 0) (f : A → B) → ((x : A) → P (f x)) → (xs : List A) → Each P (map f xs)
 each-map P f h [] = tt
@@ -51,6 +52,15 @@ all-layers W (p ∷ ps) h =
       piece-layers W p,
       piece-whole W p (h .0),
     )
+
+-- a piece covers no more than its value, so one that is left out covers nothing
+module _ (E : ℕ) (all earlier : List Protection) (p : Protection) where
+  pub portion-le : portion E all earlier p ≤ p .value
+  unfolding portion
+  portion-le = omega arith
+
+  pub zero-covers-zero : p .value ≡ 0 → portion E all earlier p ≡ 0
+  zero-covers-zero z = omega (arith, portion-le)
 
 module _ (W E : ℕ) (ps : List Protection) where
   within-covered : EachLowerWeighted W ps → EachLowerWeighted W (covered E ps)

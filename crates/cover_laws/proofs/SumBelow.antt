@@ -2,7 +2,7 @@
 use Prim.Native.Nat.{ℕ, zero, suc, _+_, _*_, _≤_, _<_}
 use mathlib.Core.Path.{_≡_, refl, ap₂}
 use native.Mathlib.Omega.{arith}
-use Rattle.cover.specs.Layers.{sumBelow}
+use Rattle.cover_laws.specs.Layers.{sumBelow}
 
 pub below-add : (n : ℕ) (f g : ℕ → ℕ) → sumBelow n (λ l. f l + g l) ≡ sumBelow n f + sumBelow n g
 unfolding sumBelow
