@@ -7,7 +7,7 @@ ghost use lib.ListN.{drop, length};
 ghost use Rattle.text.specs.Text.{linesOf};
 ghost use Rattle.deal.specs.Deals.{openedDeal};
 ghost use Rattle.deal.specs.Terms.{termsRefusal};
-ghost use Rattle.relief.specs.Working.{BothTimeFactors, TimeFactorsOf};
+ghost use Rattle.relief.specs.TimeFactors.{BothTimeFactors, TimeFactorsOf};
 ghost use Rattle.book.specs.Answers.{dealAnswer, linesAnswer};
 ghost use Rattle.book.specs.Deals.{opensDeal, ownLines};
 ghost use Rattle.book.specs.Working.{DealRead, LinesRead, firstDeal, ownFirst};
@@ -21,8 +21,8 @@ use deal::terms::Terms;
 use lines::line::Line;
 use lines::line::read_line;
 use relief::bare::bare_amounts;
-use relief::report::full_report;
 use relief::factors::TimeFactors;
+use relief::report::full_report;
 use text::line_end;
 
 pub struct DealResult {
@@ -87,7 +87,13 @@ fn with_figures(exposure: u64, rwa: u64, end: usize, next: u64) -> DealResult
 }
 
 // A deal opened on these terms by the line with this number, from its further lines on. Each goes into its list as adding does it.
-fn with_items(text: &[u8], start: usize, number: u64, terms: Terms, factors: TimeFactors) -> DealResult
+fn with_items(
+    text: &[u8],
+    start: usize,
+    number: u64,
+    terms: Terms,
+    factors: TimeFactors,
+) -> DealResult
     requires { ⌜ (termsRefusal terms ≡ 0) × ((start ≤ length (now text)) × (number + 1 + length (now text) ≤ 65536 + start)) ⌝ }
     requires { ⌜ TimeFactorsOf terms factors ⌝ }
     ensures { λ r. ⌜ LinesRead (now (text .entry)) start (number + 1) (r .end) (r .next) ⌝ }

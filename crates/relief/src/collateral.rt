@@ -8,7 +8,7 @@ ghost use Rattle.deal.specs.Items.{collateralListAllowed, countedCollateral, li
 ghost use Rattle.base.specs.Places.{inPlaces};
 ghost use Rattle.scaling.specs.Period.{holdingPeriod};
 ghost use Rattle.scaling.specs.TimeFactor.{IsTimeFactor};
-ghost use Rattle.relief.specs.Recognition.{collateralOutcome, combinedHaircutOf};
+ghost use Rattle.relief.specs.Collateral.{collateralOutcome, combinedHaircutOf};
 ghost use Rattle.relief.specs.Exposure.{collateralTotal};
 ghost use Rattle.relief.specs.Report.{collateralReport, noCollateral};
 use crate::ground::Ground;

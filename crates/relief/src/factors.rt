@@ -1,11 +1,11 @@
 // The roots of a deal's holding periods. Deals that stand one behind the other often share them.
 ghost use mathlib.Core.Path.{_≡_};
 ghost use Rattle.deal.specs.Terms.{termsRefusal};
-ghost use Rattle.relief.specs.Working.{BothTimeFactors, TimeFactorsOf};
+ghost use Rattle.relief.specs.TimeFactors.{BothTimeFactors, TimeFactorsOf};
 use deal::terms::Terms;
+use scaling::factor::TimeFactor;
 use scaling::period::guarantee_period;
 use scaling::period::holding_period;
-use scaling::factor::TimeFactor;
 
 pub struct TimeFactors {
     // Of collateral and of the goods lent.

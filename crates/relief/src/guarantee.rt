@@ -10,9 +10,10 @@ ghost use Rattle.deal.specs.Items.{countedGuarantees, guaranteeListAllowed, gua
 ghost use Rattle.scaling.specs.Period.{guaranteePeriod};
 ghost use Rattle.scaling.specs.TimeFactor.{IsTimeFactor};
 ghost use Rattle.valuation.specs.Haircuts.{scaledCurrencyHaircut};
-ghost use Rattle.relief.specs.Recognition.{counterpartyWeightOf, guaranteeOutcome, isUnratedEntity, protectionOf, providerWeightOf};
+ghost use Rattle.relief.specs.Weights.{counterpartyWeightOf, providerWeightOf};
+ghost use Rattle.relief.specs.Guarantees.{guaranteeOutcome, isUnratedEntity, protectionOf};
 ghost use Rattle.relief.specs.Report.{noGuarantee};
-ghost use Rattle.relief.specs.Working.{covering, noProtection, withoutPortion};
+ghost use Rattle.relief.specs.Portions.{covering, noProtection, withoutPortion};
 use crate::ground::Ground;
 use crate::maturity::short_original;
 use crate::maturity::short_residual;
@@ -57,7 +58,13 @@ fn unrated_entity(item: Guarantee) -> bool
 }
 
 // The first ground that applies, or the value after this haircut. `weight` is the provider's, `counterparty_weight` the counterparty's.
-fn outcome_after_haircut(terms: Terms, item: Guarantee, haircut: u64, weight: u64, counterparty_weight: u64) -> Outcome
+fn outcome_after_haircut(
+    terms: Terms,
+    item: Guarantee,
+    haircut: u64,
+    weight: u64,
+    counterparty_weight: u64,
+) -> Outcome
     requires { ⌜ (item .amount ≤ 1000000000000) × (haircut ≡ scaledCurrencyHaircut (item .currency) (terms .currency) (guaranteePeriod (terms .interval))) ⌝ }
     requires { ⌜ (weight ≡ providerWeightOf (tableFor terms) item) × («counterparty_weight» ≡ counterpartyWeightOf (tableFor terms) terms) ⌝ }
     ensures { λ r. ⌜ r ≡ guaranteeOutcome (tableFor terms) terms item ⌝ }
@@ -87,7 +94,12 @@ fn outcome_after_haircut(terms: Terms, item: Guarantee, haircut: u64, weight: u6
 }
 
 // One guarantee; `counterparty_weight` is the counterparty's weight, `root` that of the guarantees' period.
-pub fn guarantee_outcome(terms: Terms, item: Guarantee, counterparty_weight: u64, factor: TimeFactor) -> ValuedGuarantee
+pub fn guarantee_outcome(
+    terms: Terms,
+    item: Guarantee,
+    counterparty_weight: u64,
+    factor: TimeFactor,
+) -> ValuedGuarantee
     requires { ⌜ (guaranteeRefusal item ≡ 0) × («counterparty_weight» ≡ counterpartyWeightOf (tableFor terms) terms) ⌝ }
     requires { ⌜ (factor .period ≡ guaranteePeriod (terms .interval)) × IsTimeFactor factor ⌝ }
     ensures { λ r. ⌜ (r .outcome ≡ guaranteeOutcome (tableFor terms) terms item) × (r .protection ≡ protectionOf (tableFor terms) terms item) ⌝ }

@@ -3,10 +3,10 @@
 pub mod bare;
 pub mod collateral;
 pub mod exposure;
+pub mod factors;
 pub mod ground;
 pub mod guarantee;
 pub mod maturity;
 pub mod outcome;
 pub mod report;
-pub mod factors;
 pub mod weight;

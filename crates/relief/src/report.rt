@@ -8,16 +8,16 @@ ghost use Rattle.deal.specs.Editions.{tableFor};
 ghost use Rattle.deal.specs.Views.{viewOf};
 ghost use Rattle.relief.specs.ByNumber.{collateralPlaces, guaranteePlaces, placeOf};
 ghost use Rattle.relief.specs.Report.{fullReport, refusedReport, reportOf, reportRefusal};
-ghost use Rattle.relief.specs.Working.{TimeFactorsOf};
+ghost use Rattle.relief.specs.TimeFactors.{TimeFactorsOf};
 use crate::collateral::CollateralReport;
 use crate::collateral::value_collateral;
 use crate::exposure::exposure_after;
 use crate::exposure::scaled_lent_haircut;
+use crate::factors::TimeFactors;
 use crate::guarantee::GuaranteeReport;
 use crate::guarantee::value_guarantees;
 use crate::guarantee::with_portions;
 use crate::outcome::Outcome;
-use crate::factors::TimeFactors;
 use crate::weight::weight_of;
 use cover::cover::cover;
 use deal::answer::Answer;
@@ -77,7 +77,11 @@ pub fn full_report(
     let weight = weight_of(terms);
     let pledged = value_collateral(terms, collateral, factors.deal);
     let guaranteed = value_guarantees(terms, guarantees, weight, factors.guarantees);
-    let exposure = exposure_after(terms, scaled_lent_haircut(terms, factors.deal), pledged.total);
+    let exposure = exposure_after(
+        terms,
+        scaled_lent_haircut(terms, factors.deal),
+        pledged.total,
+    );
     let protections = guaranteed.protections;
     let count = guarantees.count;
     let covered = cover(protections, count, exposure, weight);

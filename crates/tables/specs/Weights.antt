@@ -5,6 +5,7 @@ use mathlib.Core.List.{List, [], _∷_}
 use lib.Dec.{eqb}
 use lib.ListN.{getD}
 use Rattle.base.specs.Choice.{if_then_else_}
+pub use Rattle.tables.specs.Classes.{retail}
 
 -- a row each: 1 sovereign; 2 bank; 3 corporate, other entity. In a row: steps 1 to 6, unrated
 abbrev pub weights : List (List ℕ)
@@ -24,9 +25,6 @@ tableWeight class step = getD (getD weights (class - 1) []) (stepColumn step) 0
 -- a provider of protection: 1 sovereign, 2 bank or securities firm (CRE20.16), 3 other entity. CRE22.91(1)
 unfoldable pub providerWeight : ℕ → ℕ → ℕ
 providerWeight class step = tableWeight class step
-
-abbrev pub retail : ℕ
-retail = 4
 
 -- a counterparty: 1 sovereign, 2 bank, 3 corporate, 4 retail. "Retail is 75"
 unfoldable pub counterpartyWeight : ℕ → ℕ → ℕ

@@ -10,7 +10,7 @@ use Rattle.base.proofs.Tests.{tests}
 use Rattle.text.specs.Text.{linesOf}
 use Rattle.text.proofs.Lines.{rest-part, no-lines-at}
 use Rattle.scaling.proofs.Below.{factor-none}
-use Rattle.relief.specs.Working.{BothTimeFactors}
+use Rattle.relief.specs.TimeFactors.{BothTimeFactors}
 use Rattle.book.specs.Deals.{DealLines, dealsFrom, opensDeal}
 use Rattle.book.specs.Answers.{answersFrom, dealAnswer}
 use Rattle.book.specs.Working.{DealRead, ownFirst, firstDeal}

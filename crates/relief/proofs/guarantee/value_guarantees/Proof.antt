@@ -14,9 +14,9 @@ use Rattle.deal.specs.declared.terms.Terms.{Terms}
 use Rattle.deal.specs.declared.guarantee.Guarantee.{Guarantee}
 use Rattle.deal.proofs.Plain.{guarantee-count, guarantee-taken}
 use Rattle.relief.specs.declared.guarantee.GuaranteeReport.{GuaranteeReport}
-use Rattle.relief.specs.Recognition.{protectionOf}
+use Rattle.relief.specs.Guarantees.{protectionOf}
 use Rattle.relief.specs.Report.{noGuarantee}
-use Rattle.relief.specs.Working.{withoutPortion, noProtection}
+use Rattle.relief.specs.Portions.{withoutPortion, noProtection}
 use Rattle.relief.proofs.guarantee.value_guarantees.Statement.{statement}
 use Rattle.relief.proofs.guarantee.value_guarantees.Tie as tie
 

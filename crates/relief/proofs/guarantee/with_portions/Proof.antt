@@ -8,7 +8,7 @@ use Rattle.base.proofs.Arrays.{unmapped}
 use Rattle.base.proofs.Places.{zip-more}
 use Rattle.base.proofs.Tests.{tests}
 use Rattle.relief.specs.Report.{noGuarantee}
-use Rattle.relief.specs.Working.{covering}
+use Rattle.relief.specs.Portions.{covering}
 use Rattle.relief.proofs.guarantee.with_portions.Statement.{statement}
 use Rattle.relief.proofs.guarantee.with_portions.Tie as tie
 

@@ -9,15 +9,12 @@ use borrow.Author.Tests.{eqb-true, eq-eqb, lt-ltb, ltb-true, le-leb, leb-true}
 use Rattle.base.proofs.Choice.{never}
 use Rattle.base.proofs.Every.{both}
 use Rattle.base.proofs.Tests.{and-true}
+use Rattle.tables.specs.Classes.{otherEntity}
 use Rattle.deal.specs.declared.terms.Terms.{Terms}
 use Rattle.deal.specs.declared.guarantee.Guarantee.{Guarantee}
-use Rattle.relief.specs.Recognition.{shortOriginal, shortResidual, isUnratedEntity}
-use Rattle.relief.proofs.NoWorse.{SameOrBetter}
-
--- a test that is not met, and the later ones
-infixr 4 _also_
-abbrev pub _also_ : {A B : Type 0} → A → B → A × B
-a also b = (a, b)
+use Rattle.relief.specs.Maturity.{shortOriginal, shortResidual}
+use Rattle.relief.specs.Guarantees.{isUnratedEntity}
+use Rattle.relief_laws.proofs.NoWorse.{SameOrBetter}
 
 -- a test that is met after only if it was met before
 pub stays-unmet : (before after : Bool) → (after ≡ true → before ≡ true) → before ≡ false → after ≡ false
@@ -49,10 +46,10 @@ pub rated-stays : (g g′ : Guarantee) → g′ .provider .class ≡ g .provider
     isUnratedEntity g ≡ false → isUnratedEntity g′ ≡ false
 rated-stays g g′ same step =
     stays-unmet (isUnratedEntity g) (isUnratedEntity g′) (λ e.
-    let b = both (eqb (g′ .provider .class) 3) (eqb (g′ .provider .step) 0) e in
-    let class = eqb-true (g′ .provider .class) 3 (b .0) in
+    let b = both (eqb (g′ .provider .class) otherEntity) (eqb (g′ .provider .step) 0) e in
+    let class = eqb-true (g′ .provider .class) otherEntity (b .0) in
     let zero = eqb-true (g′ .provider .step) 0 (b .1) in
-    and-true _ _ (eq-eqb (g .provider .class) 3 (omega arith))
+    and-true _ _ (eq-eqb (g .provider .class) otherEntity (omega arith))
     (⊎-elim (λ s. eq-eqb (g .provider .step) 0 (omega arith)) (λ better. absurd (omega (arith, better .0))) step))
 
 -- a provider's weight below the counterparty's

@@ -7,32 +7,29 @@ use native.Mathlib.Omega.{arith}
 use Rattle.base.specs.Sum.{sumOf}
 use Rattle.base.proofs.Sum.{sum-map}
 use Rattle.tables.specs.Table.{Table, TableLaws, Goods}
-use Rattle.scaling.proofs.Scaled.{scaled-mono}
 use Rattle.valuation.specs.Exposure.{riskWeightedAmount}
-use Rattle.valuation.proofs.Amounts.{adjusted-exposure-mono, risk-weighted-mono}
 use Rattle.cover.specs.Cover.{lowerWeighted, weightedSum}
-use Rattle.cover.specs.Layers.{EachLowerWeighted}
+use Rattle.cover_laws.specs.Layers.{EachLowerWeighted}
 use Rattle.cover.specs.declared.protection.Protection.{Protection}
-use Rattle.cover.proofs.Layers.{within-map}
-use Rattle.cover.proofs.Laws.{weighted-mono as sum-no-higher}
+use Rattle.cover_laws.proofs.Layers.{within-map}
+use Rattle.cover_laws.proofs.Weighted.{weighted-mono as sum-no-higher}
 use Rattle.deal.specs.Views.{View, unprotected}
 use Rattle.deal.specs.declared.terms.Terms.{Terms}
 use Rattle.deal.specs.declared.collateral.Collateral.{Collateral}
 use Rattle.deal.specs.declared.guarantee.Guarantee.{Guarantee}
 use Rattle.relief.specs.Outcomes.{outcomeValue}
-use Rattle.relief.specs.Recognition.{collateralOutcome, protectionOf, counterpartyWeightOf}
+use Rattle.relief.specs.Weights.{counterpartyWeightOf}
+use Rattle.relief.specs.Collateral.{collateralOutcome}
+use Rattle.relief.specs.Guarantees.{protectionOf}
 use Rattle.relief.specs.Exposure.{scaledLentHaircut, adjustedExposureOf, collateralTotal, exposureAfter, piecesOf, riskWeightedAmountOf}
-use Rattle.relief.proofs.NoWorse.{SameOrBetter, NoWorseTerms, NoWorseCollateral, NoWorseGuarantee, NoLess, sum-no-less}
-use Rattle.relief.proofs.Recognition.{period-no-longer, counterparty-same, protection-lower-weighted, collateral-no-less, protection-no-less}
+use Rattle.relief_laws.proofs.Haircuts.{scaled-mono}
+use Rattle.relief_laws.proofs.Rounded.{adjusted-exposure-mono, risk-weighted-mono}
+use Rattle.relief_laws.proofs.NoWorse.{SameOrBetter, NoWorseTerms, NoWorseCollateral, NoWorseGuarantee, NoLess, sum-no-less}
+use Rattle.relief_laws.proofs.Recognition.{period-no-longer, counterparty-same, protection-lower-weighted, collateral-no-less, protection-no-less}
 
 -- Of any table
 
 module _ (table : Table) where
-  -- "never above the deal's amount"
-  pub exposure-bound : (v : View) → exposureAfter table v ≤ v .terms .amount
-  unfolding exposureAfter
-  exposure-bound v = omega arith
-
   -- more collateral, less exposure
   pub exposure-mono : (v v′ : View) → v′ .terms .amount ≡ v .terms .amount → adjustedExposureOf table (v′ .terms) ≤ adjustedExposureOf table (v .terms) →
       collateralTotal table (v .terms) (v .collateral) ≤ collateralTotal table (v′ .terms) (v′ .collateral) → exposureAfter table v′ ≤ exposureAfter table v
@@ -73,7 +70,7 @@ module _ {table : Table} (laws : TableLaws table) {t t′ : Terms} (terms : NoWo
   lent-no-more {g} {g′} {s} {s′} {l} {l′} hg same step long =
       rw (same, long) (⊎-elim (λ q. rw q (omega arith)) (λ b. laws .step-lent g s s′ l hg b) step)
 
-  -- better goods lent, a shorter interval: the exposure is raised no more
+  -- better goods lent, a shorter interval: no larger a volatility-adjusted exposure
   pub adjusted-exposure-no-more : adjustedExposureOf table t′ ≤ adjustedExposureOf table t
   unfolding adjustedExposureOf scaledLentHaircut
   adjusted-exposure-no-more =

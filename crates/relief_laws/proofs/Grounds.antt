@@ -7,9 +7,10 @@ use Rattle.tables.specs.Table.{Table}
 use Rattle.deal.specs.declared.terms.Terms.{Terms}
 use Rattle.deal.specs.declared.collateral.Collateral.{Collateral}
 use Rattle.deal.specs.declared.guarantee.Guarantee.{Guarantee}
 use Rattle.relief.specs.Outcomes.{outcomeGround}
-use Rattle.relief.specs.Recognition.{collateralGround, collateralGrounds, collateralOutcome, guaranteeGround, guaranteeGrounds, guaranteeOutcome}
+use Rattle.relief.specs.Collateral.{collateralGround, collateralGrounds, collateralOutcome}
+use Rattle.relief.specs.Guarantees.{guaranteeGround, guaranteeGrounds, guaranteeOutcome}
 use Rattle.relief.proofs.Recognition.{collateral-number, guarantee-number}
 
 module _ (table : Table) (t : Terms) where
   -- EACH GROUND OF COLLATERAL EXACTLY WHERE IT IS DUE
