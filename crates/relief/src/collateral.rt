@@ -61,7 +61,7 @@ fn outcome_after_haircut(terms: Terms, item: Collateral, haircut: u64) -> Outcom
     Outcome::Valued(recognised(item.amount, haircut, item.residual, terms.residual))
 }
 
-// One item of collateral, under the root of the deal's period.
+// One item of collateral, under the time factor of the deal's period.
 pub fn collateral_outcome(terms: Terms, item: Collateral, factor: TimeFactor) -> Outcome
     requires { ⌜ (item .amount ≤ 1000000000000) × ((factor .period ≡ holdingPeriod (terms .kind) (terms .interval)) × IsTimeFactor factor) ⌝ }
     ensures { λ r. ⌜ r ≡ collateralOutcome (tableFor terms) terms item ⌝ }

@@ -1,4 +1,4 @@
--- `relief::collateral::value_item` meets its contract. Assumes nothing.
+-- `relief::collateral::collateral_outcome` meets its contract. Assumes nothing.
 use native.Mathlib.Omega.{arith}
 use Rattle.tables.proofs.Bounds.{haircut-bound}
 use Rattle.deal.specs.Editions.{tableFor}

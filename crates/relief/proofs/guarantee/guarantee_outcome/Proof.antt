@@ -1,4 +1,4 @@
--- `relief::guarantee::value_item` meets its contract. Assumes nothing.
+-- `relief::guarantee::guarantee_outcome` meets its contract. Assumes nothing.
 use mathlib.Core.Path.{_≡_}
 use Rattle.deal.specs.Editions.{tableFor}
 use Rattle.deal.proofs.Plain.{PlainGuarantee, plain-guarantee}

@@ -9,16 +9,17 @@ use lib.ListN.{length, take, drop}
 use lib.Seq.{take-at, drop-at}
 use Rattle.base.specs.All.{allPass}
 use Rattle.base.specs.Choice.{if_then_else_}
-use Rattle.text.specs.Text.{firstLine, linesOf, ended}
-use Rattle.text.proofs.Lines.{lines-append, no-lines}
+use Rattle.text.specs.Text.{firstLine, linesOf}
+use Rattle.text.proofs.Lines.{no-lines}
 use Rattle.book.specs.Deals.{DealLines, opensDeal, dealsFrom}
 use Rattle.book.specs.Answers.{dealAnswer, answersFrom}
 use Rattle.book.specs.Heading.{header}
-use Rattle.book.specs.Parts.{dealsIn, linesIn, StartsDeal, answersTo, Parted}
 use Rattle.book.specs.Book.{textBehind, bookRefusal, resultsAfter}
 use Rattle.book.proofs.Answering.{no-answers, answers-more, answers-long}
-use Rattle.book.proofs.Grouping.{deals-append, deals-counted}
+use Rattle.book.proofs.Grouping.{deals-counted}
 use Rattle.book.proofs.Refusing.{accepted-results}
+use Rattle.book_laws.specs.Parts.{dealsIn, linesIn, StartsDeal, answersTo, ended, Parted}
+use Rattle.book_laws.proofs.Following.{lines-append, deals-append}
 
 answers-append : (serial : ℕ) (ds es : List DealLines) → answersFrom serial (ds ++ es) ≡ answersFrom serial ds ++ answersFrom (serial + length ds) es
 answers-append serial [] es =

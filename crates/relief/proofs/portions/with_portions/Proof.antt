@@ -1,4 +1,4 @@
--- `relief::guarantee::with_portions` meets its contract: after i items the first i places are filled. Assumes nothing.
+-- `relief::portions::with_portions` meets its contract: after i items the first i places are filled. Assumes nothing.
 use Prim.Native.Nat.{_-_, _≤_, _<_}
 use mathlib.Core.Path.{_≡_, refl}
 use mathlib.Core.List.{zipWith, _++_}
@@ -9,8 +9,8 @@ use Rattle.base.proofs.Places.{zip-more}
 use Rattle.base.proofs.Tests.{tests}
 use Rattle.relief.specs.Report.{noGuarantee}
 use Rattle.relief.specs.Portions.{covering}
-use Rattle.relief.proofs.guarantee.with_portions.Statement.{statement}
-use Rattle.relief.proofs.guarantee.with_portions.Tie as tie
+use Rattle.relief.proofs.portions.with_portions.Statement.{statement}
+use Rattle.relief.proofs.portions.with_portions.Tie as tie
 
 abbrev Inv-loop : tie.InvT-loop
 Inv-loop count values portions reports₀ i₀ reports i =

@@ -11,15 +11,15 @@ use Rattle.deal.specs.Terms.{termsTests, termsRefusal}
 use Rattle.deal.specs.Deals.{recordAllowed}
 use Rattle.deal.specs.declared.deal.Deal.{Deal}
 use Rattle.deal.specs.declared.terms.Terms.{Terms}
-use Rattle.deal.proofs.Deals.{accepted-allowed, allowed-accepted, new-accepted, collateral-kept-allowed, guarantee-kept-allowed}
+use Rattle.deal.proofs.Deals.{accepted-allowed, allowed-accepted, new-accepted}
 use Rattle.deal.proofs.Exact.{collateral-40, guarantee-40}
 use Rattle.lines.specs.Lines.{lineOf}
 use Rattle.lines.specs.declared.line.Line.{Line}
 use Rattle.lines.specs.declared.line.Line.the-variants.{DealLine, CollateralLine, GuaranteeLine, Malformed}
 use Rattle.book.specs.Deals.{DealLines}
 use Rattle.book.specs.Answers.{openingRefusal, openedBy, lineRefusal, withLine, linesAnswer, dealAnswer}
-use Rattle.book.specs.Parts.{AnsweredBy, byLine, byReport}
-use Rattle.book.proofs.Answering.{no-more-lines}
+use Rattle.book_laws.specs.Parts.{AnsweredBy, byLine, byReport}
+use Rattle.book.proofs.Answering.{line-allowed, no-more-lines}
 
 -- a refusal that is 40 only of records that are not allowed
 not-40 : (refusal : ℕ) (d : Deal) → (refusal ≡ 40 → recordAllowed d ≡ false) → recordAllowed d ≡ true → eqb refusal 40 ≡ false
@@ -53,14 +53,6 @@ line-not-40 d (CollateralLine c) h = not-40 _ d (collateral-40 d c .0) h
 line-not-40 d (GuaranteeLine g) h = not-40 _ d (guarantee-40 d g .0) h
 line-not-40 d (DealLine t) h = refl
 line-not-40 d Malformed h = refl
-
--- no line takes a deal out of those that adding takes
-pub line-allowed : (d : Deal) (line : Line) → recordAllowed d ≡ true → recordAllowed (withLine d line) ≡ true
-unfolding withLine
-line-allowed d (CollateralLine c) h = collateral-kept-allowed d c h
-line-allowed d (GuaranteeLine g) h = guarantee-kept-allowed d g h
-line-allowed d (DealLine t) h = h
-line-allowed d Malformed h = h
 
 lines-answered : (opening number : ℕ) (d : Deal) (lines : List (List ℕ)) → recordAllowed d ≡ true → AnsweredBy (linesAnswer opening number d lines)
 unfolding linesAnswer

@@ -1,4 +1,4 @@
--- `relief::guarantee::value_guarantees` meets its contract: after i items the first i places of both arrays are filled. Assumes nothing.
+-- `relief::guarantees::value_guarantees` meets its contract: after i items the first i places of both arrays are filled. Assumes nothing.
 use Prim.Native.Nat.{ℕ, _-_, _≤_, _<_}
 use mathlib.Core.Path.{_≡_, refl, _∙_}
 use mathlib.Core.List.{List, map, _++_}
@@ -17,8 +17,8 @@ use Rattle.relief.specs.declared.guarantee.GuaranteeReport.{GuaranteeRep
 use Rattle.relief.specs.Guarantees.{protectionOf}
 use Rattle.relief.specs.Report.{noGuarantee}
 use Rattle.relief.specs.Portions.{withoutPortion, noProtection}
-use Rattle.relief.proofs.guarantee.value_guarantees.Statement.{statement}
-use Rattle.relief.proofs.guarantee.value_guarantees.Tie as tie
+use Rattle.relief.proofs.guarantees.value_guarantees.Statement.{statement}
+use Rattle.relief.proofs.guarantees.value_guarantees.Tie as tie
 
 record Holds (t : Terms) (items : List Guarantee) (count : ℕ) (reports : List GuaranteeReport) (protections : List Protection) (i : ℕ) : Type 0 where
   passed : i ≤ count
