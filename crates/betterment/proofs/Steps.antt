@@ -15,8 +15,8 @@ use Rattle.deal.specs.declared.terms.Terms.{Terms}
 use Rattle.deal.specs.declared.collateral.Collateral.{Collateral}
 use Rattle.deal.specs.declared.guarantee.Guarantee.{Guarantee}
 use Rattle.relief.specs.Exposure.{riskWeightedAmountOf}
-use Rattle.relief.proofs.NoWorse.{SameOrBetter, SameOrDeals, NoLowerCollateral, NoLowerGuarantee, NoWorseTerms, NoWorseCollateral, NoWorseGuarantee, NoLess, none, kept, more}
-use Rattle.relief.proofs.Amounts.{amount-no-higher}
+use Rattle.relief_laws.proofs.NoWorse.{SameOrBetter, SameOrDeals, NoLowerCollateral, NoLowerGuarantee, NoWorseTerms, NoWorseCollateral, NoWorseGuarantee, NoLess, none, kept, more}
+use Rattle.relief_laws.proofs.Amounts.{amount-no-higher}
 use Rattle.deal.specs.Fields.{collateralFields, guaranteeFields}
 use Rattle.deal.specs.Views.{View, acceptedView}
 use Rattle.betterment.specs.Betterments.{SmallerStep, OneOf, BetterItem, BetterCollateral, BetterGuarantee, BetterTerms, OneChanged, OneMore, Better}

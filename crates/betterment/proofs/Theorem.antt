@@ -14,7 +14,7 @@ use Rattle.deal.specs.declared.terms.Terms.{Terms}
 use Rattle.deal.specs.declared.deal.Deal.{Deal}
 use Rattle.relief.specs.Exposure.{riskWeightedAmountOf}
 use Rattle.relief.specs.Report.{reportUnder, reportOf}
-use Rattle.relief.proofs.Amounts.{no-higher-than-without}
+use Rattle.relief_laws.proofs.Amounts.{no-higher-than-without}
 use Rattle.relief.proofs.Reports.{rwa-of}
 use Rattle.deal.specs.Views.{View, viewOf, acceptedView, recordOf}
 use Rattle.betterment.specs.Betterments.{BetterTerms, Better, Betterments, NeverRaised, NeverRaisedUnder}

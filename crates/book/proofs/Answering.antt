@@ -8,10 +8,11 @@ use borrow.Author.Tests.{eq-eqb}
 use lib.Dec.{eqb}
 use lib.ListN.{length, length-append}
 use Rattle.base.proofs.Choice.{either, if-true, if-false}
-use Rattle.deal.specs.Records.{accepted}
+use Rattle.deal.specs.Records.{accepted, recordAllowed}
 use Rattle.deal.specs.Opening.{openedDeal}
 use Rattle.deal.specs.Terms.{termsRefusal}
 use Rattle.deal.specs.declared.deal.Deal.{Deal}
+use Rattle.deal.proofs.Deals.{collateral-kept-allowed, guarantee-kept-allowed}
 use Rattle.relief.specs.Report.{reportRefusal}
 use Rattle.relief.proofs.Reports.{accepted-unrefused}
 use Rattle.lines.specs.Lines.{lineOf}
@@ -19,7 +20,7 @@ use Rattle.lines.specs.declared.line.Line.{Line}
 use Rattle.lines.specs.declared.line.Line.the-variants.{DealLine, CollateralLine, GuaranteeLine, Malformed}
 use Rattle.book.specs.Deals.{DealLines}
 use Rattle.book.specs.Answers.{openingRefusal, openedBy, lineRefusal, withLine, refusedAt, figuresOf, reported, linesAnswer, dealAnswer, answersFrom}
-use Rattle.book.specs.Working.{openingTerms}
+use Rattle.book.specs.Opening.{openingTerms}
 
 -- three numbers, one by one
 pub componentwise : {a b c x y z : ℕ} → a ≡ x → b ≡ y → c ≡ z → a ∷ b ∷ c ∷ [] ≡ x ∷ y ∷ z ∷ []
@@ -52,6 +53,14 @@ pub unopened-answer : (deal : DealLines) → eqb (openingRefusal (lineOf (deal .
     → dealAnswer deal ≡ openingRefusal (lineOf (deal .opening)) ∷ deal .number ∷ 0 ∷ []
 unfolding dealAnswer refusedAt
 unopened-answer deal e = if-false _ _ _ e
+
+-- no line takes a deal out of those that adding takes
+pub line-allowed : (d : Deal) (line : Line) → recordAllowed d ≡ true → recordAllowed (withLine d line) ≡ true
+unfolding withLine
+line-allowed d (CollateralLine c) h = collateral-kept-allowed d c h
+line-allowed d (GuaranteeLine g) h = guarantee-kept-allowed d g h
+line-allowed d (DealLine t) h = h
+line-allowed d Malformed h = h
 
 -- from one more line
 module _ (opening number : ℕ) (d : Deal) (line : List ℕ) (lines : List (List ℕ)) where

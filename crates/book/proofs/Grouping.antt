@@ -1,19 +1,17 @@
 -- Laws of the deals among lines. Assumes nothing.
-use Prim.Native.Nat.{ℕ, suc, _+_, _≤_, _<_}
-use mathlib.Core.Path.{_≡_, refl, sym, _∙_, ap}
+use Prim.Native.Nat.{ℕ, _+_, _≤_, _<_}
+use mathlib.Core.Path.{_≡_, refl, _∙_, ap}
 use mathlib.Core.Bool.{Bool, true, false, not}
-use mathlib.Core.List.{List, [], _∷_, _++_}
+use mathlib.Core.List.{List, [], _∷_}
 use native.Mathlib.Omega.{arith}
-use lib.ListN.{length, take, drop, drop-of-length-le}
+use lib.ListN.{length, drop, drop-of-length-le}
 use lib.Seq.{drop-cons}
-use Rattle.base.specs.All.{allPass}
-use Rattle.base.proofs.Every.{both}
 use Rattle.base.proofs.Choice.{if-true, if-false, never}
 use Rattle.base.proofs.Tests.{told-not-true, told-not-false}
 use Rattle.text.specs.Text.{startsWith, firstLine, linesOf}
 use Rattle.text.proofs.Lines.{starts-first, lines-first, lines-at, no-lines}
 use Rattle.book.specs.Deals.{opensDeal, ownLines, dealsFrom}
-use Rattle.book.specs.Working.{ownFirst, firstDeal}
+use Rattle.book.specs.Start.{ownFirst, firstDeal}
 
 -- a text opens a deal where its first line does
 pub opens-first : (text : List ℕ) → opensDeal (firstLine text) ≡ opensDeal text
@@ -39,11 +37,11 @@ module _ (line : List ℕ) (lines : List (List ℕ)) where
   unfolding ownLines
   own-more h = if-false _ _ _ h
 
-  own-end : opensDeal line ≡ true → ownLines (line ∷ lines) ≡ []
+  pub own-end : opensDeal line ≡ true → ownLines (line ∷ lines) ≡ []
   unfolding ownLines
   own-end h = if-true _ _ _ h
 
-no-own : ownLines [] ≡ []
+pub no-own : ownLines [] ≡ []
 unfolding ownLines
 no-own = refl
 
@@ -92,32 +90,6 @@ deals-counted m n (line ∷ lines) = go (deals-counted (m + 1) (n + 1) lines) (o
         → length (dealsFrom m (line ∷ lines)) ≡ length (dealsFrom n (line ∷ lines))
     go h true e = rw (deals-open m line lines e, deals-open n line lines e, h)
     go h false e = rw (deals-pass m line lines e, deals-pass n line lines e, h)
-
--- lines that start with a deal, if there are any, are no one else's own
-own-append : (ls ms : List (List ℕ)) → allPass (take 1 ms) opensDeal ≡ true → ownLines (ls ++ ms) ≡ ownLines ls
-own-append [] [] h = refl
-own-append [] (m ∷ ms) h = own-end m ms (both (opensDeal m) true h .0) ∙ sym no-own
-own-append (l ∷ ls) ms h = go (own-append ls ms h) (opensDeal l) refl
-  where
-    go : ownLines (ls ++ ms) ≡ ownLines ls → (t : Bool) → opensDeal l ≡ t → ownLines (l ∷ (ls ++ ms)) ≡ ownLines (l ∷ ls)
-    go k true e = own-end l (ls ++ ms) e ∙ sym (own-end l ls e)
-    go k false e = own-more l (ls ++ ms) e ∙ ap (λ r. l ∷ r) k ∙ sym (own-more l ls e)
-
--- and their deals stand behind the others
-pub deals-append : (number : ℕ) (ls ms : List (List ℕ)) → allPass (take 1 ms) opensDeal ≡ true
-    → dealsFrom number (ls ++ ms) ≡ dealsFrom number ls ++ dealsFrom (number + length ls) ms
-deals-append number [] ms h =
-    let e : number ≡ number + 0 = omega arith in
-    rw (no-deals number) (ap (λ n. dealsFrom n ms) e)
-deals-append number (l ∷ ls) ms h = go (deals-append (number + 1) ls ms h) (opensDeal l) refl
-  where
-    e : number + 1 + length ls ≡ number + suc (length ls)
-    e = omega arith
-
-    go : dealsFrom (number + 1) (ls ++ ms) ≡ dealsFrom (number + 1) ls ++ dealsFrom (number + 1 + length ls) ms → (t : Bool) → opensDeal l ≡ t
-        → dealsFrom number (l ∷ (ls ++ ms)) ≡ dealsFrom number (l ∷ ls) ++ dealsFrom (number + suc (length ls)) ms
-    go k true p = deals-open number l (ls ++ ms) p ∙ rw (own-append ls ms h, deals-open number l ls p, k, e)
-    go k false p = deals-pass number l (ls ++ ms) p ∙ rw (deals-pass number l ls p, k, e)
 
 -- the deal that a text starts with, and the others
 pub deals-first : (number : ℕ) (text : List ℕ) → opensDeal text ≡ true

@@ -29,9 +29,8 @@ use Rattle.lines.specs.declared.line.Line.{Line}
 use Rattle.lines.specs.declared.line.Line.the-variants.{DealLine, CollateralLine, GuaranteeLine, Malformed}
 use Rattle.book.specs.Answers.{malformedLine, lineRefusal, withLine, linesAnswer}
 use Rattle.book.specs.Deals.{ownLines}
-use Rattle.book.specs.Working.{ownFirst}
-use Rattle.book.proofs.Accepted.{line-allowed}
-use Rattle.book.proofs.Answering.{componentwise, accepted-line, refused-line, no-more-lines}
+use Rattle.book.specs.Start.{ownFirst}
+use Rattle.book.proofs.Answering.{componentwise, line-allowed, accepted-line, refused-line, no-more-lines}
 use Rattle.book.proofs.Grouping.{own-over}
 use Rattle.book.proofs.Passing.{OwnLine, own-next, Passed, passed-none, passed-line}
 

@@ -8,7 +8,8 @@ use lib.ListN.{length, drop, length-drop}
 use Rattle.text.specs.Text.{firstLine, linesOf}
 use Rattle.text.proofs.Lines.{lines-at, first-at-some, first-at-inside}
 use Rattle.book.specs.Deals.{opensDeal, ownLines, dealsFrom}
-use Rattle.book.specs.Working.{DealRead, LinesRead, ownFirst}
+use Rattle.book.specs.Start.{ownFirst}
+use Rattle.book.specs.Reading.{DealRead, LinesRead}
 use Rattle.book.proofs.Grouping.{deals-further, own-more, own-opens-not, own-some, opens-first, opens-some}
 
 -- where the line that starts here ends, if it is one of the deal

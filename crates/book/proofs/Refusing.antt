@@ -9,14 +9,14 @@ use lib.Dec.{eqb}
 use lib.ListN.{length, take}
 use Rattle.base.specs.All.{allPass}
 use Rattle.base.proofs.Choice.{if-true, if-false, either, never}
-use Rattle.base.proofs.FirstMet.{NoneMet, FirstIs, Exact, exact, first-is, none-met, none-exactly}
+use Rattle.base.proofs.FirstMet.{NoneMet, FirstIs, first-is, none-met, none-exactly}
 use Rattle.text.specs.Text.{sameBytes, firstLine, linesOf}
 use Rattle.text.proofs.Equal.{same-equal}
 use Rattle.text.proofs.Lines.{lines-first, no-lines}
 use Rattle.book.specs.Deals.{opensDeal}
 use Rattle.book.specs.Answers.{answersFrom}
 use Rattle.book.specs.Heading.{header, headingOf, isWrong}
-use Rattle.book.specs.Working.{ownFirst}
+use Rattle.book.specs.Start.{ownFirst}
 use Rattle.book.specs.Book.{bookTests, bookRefusal, dealsOf, answeredDeals, refusedReply, bookReply, overwrite, resultsAfter}
 use Rattle.book.proofs.Grouping.{opens-first}
 use Rattle.book.proofs.Answering.{no-answers}
@@ -73,11 +73,6 @@ module _ (book : List ℕ) (places : ℕ) where
   pub reply-deals : bookReply book places .deals ≡ length (answeredDeals book places)
   unfolding bookReply
   reply-deals = refl
-
-  -- each refusal exactly where its own test is met and none before it
-  pub book-exact : Exact (bookTests book places)
-  unfolding bookTests
-  book-exact = exact (bookTests book places) refl
 
   -- an accepted book meets no test
   pub accepted-tests : bookRefusal book places ≡ 0 → NoneMet (bookTests book places)

@@ -59,7 +59,7 @@ abbrev pub figuresOf : Deal → List ℕ
 figuresOf d = 0 ∷ reportOf d .exposure ∷ reportOf d .rwa ∷ []
 
 -- of a deal that the line with this number opened: where reporting refuses, that is said of this line, and never happens in a book
--- (`each-answered`)
+-- (`each-answered`, crates/book_laws)
 unfoldable pub reported : ℕ → Deal → List ℕ
 reported opening d = if eqb (reportRefusal d) 0 then figuresOf d else refusedAt (reportRefusal d) opening
 

@@ -2,5 +2,6 @@ pub mod Answers
 pub mod Book
 pub mod Deals
 pub mod Heading
-pub mod Parts
-pub mod Working
+pub mod Opening
+pub mod Reading
+pub mod Start

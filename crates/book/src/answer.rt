@@ -7,7 +7,7 @@ ghost use Rattle.text.specs.Text.{linesOf};
 ghost use Rattle.book.specs.Answers.{answersFrom};
 ghost use Rattle.book.specs.Book.{bookReply, overwrite, resultsAfter};
 ghost use Rattle.book.specs.Deals.{dealsFrom};
-ghost use Rattle.book.specs.Working.{ownFirst};
+ghost use Rattle.book.specs.Start.{ownFirst};
 use crate::reading::answer_deal;
 use crate::reply::BookReply;
 use crate::reply::reply_to;

@@ -7,10 +7,11 @@ ghost use lib.ListN.{drop, length};
 ghost use Rattle.text.specs.Text.{linesOf};
 ghost use Rattle.deal.specs.Opening.{openedDeal};
 ghost use Rattle.deal.specs.Terms.{termsRefusal};
-ghost use Rattle.relief.specs.Working.{BothTimeFactors, TimeFactorsOf};
+ghost use Rattle.relief.specs.TimeFactors.{BothTimeFactors, TimeFactorsOf};
 ghost use Rattle.book.specs.Answers.{dealAnswer, linesAnswer};
 ghost use Rattle.book.specs.Deals.{opensDeal, ownLines};
-ghost use Rattle.book.specs.Working.{DealRead, LinesRead, firstDeal, ownFirst};
+ghost use Rattle.book.specs.Start.{firstDeal, ownFirst};
+ghost use Rattle.book.specs.Reading.{DealRead, LinesRead};
 use crate::deals::opens_deal;
 use crate::refusal::MALFORMED;
 use crate::refusal::opening_refusal;
@@ -35,7 +36,7 @@ pub struct DealResult {
     pub next: u64,
 }
 
-// A deal's answer, and the roots of its periods, which the next deal may share.
+// A deal's answer, and the time factors of its periods, which the next deal may share.
 pub struct ResultAndFactors {
     pub answer: DealResult,
     pub factors: TimeFactors,
@@ -147,7 +148,7 @@ fn opened(text: &[u8], start: usize, number: u64, terms: Terms, factors: TimeFac
     with_figures(amounts.exposure, amounts.rwa, start, number + 1)
 }
 
-// The answer to the deal that a text starts with, given some roots.
+// The answer to the deal that a text starts with, given some time factors.
 pub fn answer_deal(text: &[u8], number: u64, factors: TimeFactors) -> ResultAndFactors
     requires { ⌜ (opensDeal (now text) ≡ true) × (number + length (now text) ≤ 65536) ⌝ }
     requires { ⌜ BothTimeFactors factors ⌝ }

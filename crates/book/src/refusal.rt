@@ -1,7 +1,7 @@
 // What the line that opens a deal says, and how it is refused.
 ghost use mathlib.Core.Path.{_≡_};
 ghost use Rattle.book.specs.Answers.{openingRefusal};
-ghost use Rattle.book.specs.Working.{openingTerms};
+ghost use Rattle.book.specs.Opening.{openingTerms};
 use deal::terms::Terms;
 use lines::line::Line;
 

@@ -16,7 +16,7 @@ use Rattle.cover.specs.Limits.{withinLimits}
 use Rattle.cover.specs.declared.protection.Cover.{Cover}
 use Rattle.cover.specs.declared.protection.Protection.{Protection}
 use Rattle.cover.proofs.Ahead.{none}
-use Rattle.cover.proofs.Laws.{pieces-bound}
+use Rattle.cover.proofs.Bounds.{pieces-bound}
 use Rattle.cover.proofs.Limits.{each-small}
 use Rattle.cover.proofs.Portions.{conserved, portions-le, covered-at, covered-length}
 

@@ -81,11 +81,3 @@ before-none w all = omega arith
 pub before-next : (w : ℕ) (all earlier : List Protection) (p : Protection) → before w all (earlier ++ p ∷ []) ≡ before w all earlier + equal w p
 unfolding before sumOf
 before-next w all earlier p = omega (arith, sum-append (equal w) earlier (p ∷ []))
-
--- more value, no more weight: no less below any weight
-pub lower-weighted-mono : (w : ℕ) (p p′ : Protection) → p .value ≤ p′ .value → p′ .weight ≤ p .weight → lowerWeighted w p ≤ lowerWeighted w p′
-lower-weighted-mono w p p′ hv hw =
-    ⊎-elim
-    (λ (h : p .weight < w). omega (arith, lower-weighted-in w p h, lower-weighted-in w p′ (omega arith)))
-    (λ (h : w ≤ p .weight). omega (arith, lower-weighted-out w p h))
-    (side (p .weight) w)

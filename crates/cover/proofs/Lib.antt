@@ -1,10 +1,7 @@
 pub mod Examples
 pub mod Levels
 pub mod Portions
-pub mod SumBelow
-pub mod Layers
-pub mod Laws
-pub mod Order
+pub mod Bounds
 pub mod Limits
 pub mod Ahead
 pub mod Covering

@@ -9,7 +9,7 @@ use lib.ListN.{length, take, getD}
 use lib.Seq.{append-snoc}
 use Rattle.base.specs.Sum.{sumOf}
 use Rattle.cover.specs.Cover.{lowerWeighted, equal, before, portion, coveredAfter, covered, uncovered}
-use Rattle.cover.specs.Layers.{Each}
+use Rattle.cover.specs.Each.{Each}
 use Rattle.cover.specs.declared.protection.Protection.{Protection}
 use Rattle.cover.proofs.Levels.{equal-in, equal-out, level-next, level-zero, level-top, top, before-none, before-next}
 
@@ -18,15 +18,6 @@ abbrev pub piece : ℕ → List Protection → List Protection → Protection �
 piece E all earlier p = record { value = portion E all earlier p; weight = p .weight }
 
 module _ (E : ℕ) (all earlier : List Protection) (p : Protection) where
-  pub portion-le : portion E all earlier p ≤ p .value
-  unfolding portion
-  portion-le = omega arith
-
-  -- a piece that is left out covers nothing
-  pub zero-covers-zero : p .value ≡ 0 → portion E all earlier p ≡ 0
-  unfolding portion
-  zero-covers-zero z = omega arith
-
   -- of the pieces of weight w, this one covers up to its value what is left
   equal-piece : (w : ℕ) → equal w (piece E all earlier p) ≡ min (equal w p) (E - before w all earlier)
   unfolding portion

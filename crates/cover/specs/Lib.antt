@@ -1,4 +1,3 @@
 pub mod Cover
-pub mod Layers
+pub mod Each
 pub mod Limits
-pub mod Sorted

@@ -39,7 +39,7 @@ pub fn cover(protections: [Protection; 16], count: usize, exposure: u64, weight:
         let value = piece.value;
         let covered = portion(value, exposure, covers_before(protections, count, i, own));
         portions[i] = covered;
-        // Never too much: a portion is cut to what lower-weighted and earlier ones leave.
+        // Never too much: a portion is no more than lower-weighted and earlier ones leave.
         uncovered -= covered;
         weighted_sum += covered * own;
         i += 1;

@@ -14,7 +14,7 @@ use Rattle.relief.specs.declared.collateral.CollateralReport.{Collateral
 use Rattle.relief.specs.declared.guarantee.GuaranteeReport.{GuaranteeReport}
 use Rattle.relief.specs.declared.report.Report.{Report}
 use Rattle.relief.specs.Report.{noGuarantee, guaranteeReports}
-use Rattle.relief.specs.Working.{withoutPortion, covering}
+use Rattle.relief.specs.Portions.{withoutPortion, covering}
 use Rattle.relief.proofs.Reports.{portion-each, shares}
 
 -- the guarantees' outcomes and their portions, place by place

@@ -16,7 +16,8 @@ use Rattle.deal.specs.declared.collateral.Collateral.{Collateral}
 use Rattle.deal.specs.declared.guarantee.Guarantee.{Guarantee}
 use Rattle.deal.specs.declared.deal.Deal.{Deal}
 use Rattle.relief.specs.Outcomes.{outcomeGround, outcomeValue}
-use Rattle.relief.specs.Recognition.{collateralGround, collateralValue, collateralOutcome, guaranteeGround, guaranteeValue, guaranteeOutcome}
+use Rattle.relief.specs.Collateral.{collateralGround, collateralValue, collateralOutcome}
+use Rattle.relief.specs.Guarantees.{guaranteeGround, guaranteeValue, guaranteeOutcome}
 use Rattle.relief.specs.Report.{noCollateral, noGuarantee, collateralReports, guaranteeReports, fullReport, refusedReport, reportUnder, reportOf}
 use Rattle.relief.specs.ByNumber.{placeOf, placeWith, collateralPlaces, guaranteePlaces}
 use Rattle.relief.proofs.Outcomes.{value-for}

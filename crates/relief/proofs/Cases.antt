@@ -98,7 +98,7 @@ pub guarantee-value : guaranteeValues (loan 0) (guarantee 2 840 1800 1800 1 1 1 
 unfolding computed
 guarantee-value = refl
 
--- E* is never above the amount: 100 of other listed equity lent, raised to 125, less 10 of cash
+-- E* is never above the amount: 100 of other listed equity lent, volatility-adjusted to 125, less 10 of cash
 abbrev ten : Collateral
 ten = record {
   amount = 10;

@@ -26,7 +26,9 @@ use Rattle.deal.specs.declared.deal.Deal.{Deal}
 use Rattle.relief.specs.declared.report.Report.{Report}
 use Rattle.relief.specs.Grounds.{groundNumber, groundWith}
 use Rattle.relief.specs.Outcomes.{outcomeValue, outcomeGround, outcomeFor}
-use Rattle.relief.specs.Recognition.{shortOriginal, shortResidual, combinedHaircutOf, collateralValue, collateralGrounds, collateralGround, collateralOutcome, guaranteeValue, guaranteeGrounds, guaranteeGround, guaranteeOutcome}
+use Rattle.relief.specs.Maturity.{shortOriginal, shortResidual}
+use Rattle.relief.specs.Collateral.{combinedHaircutOf, collateralValue, collateralGrounds, collateralGround, collateralOutcome}
+use Rattle.relief.specs.Guarantees.{guaranteeValue, guaranteeGrounds, guaranteeGround, guaranteeOutcome}
 use Rattle.relief.specs.Exposure.{scaledLentHaircut, adjustedExposureOf, collateralTotal, exposureAfter, riskWeightedAmountOf}
 use Rattle.relief.specs.Report.{fullReport, reportUnder, reportOf}
 

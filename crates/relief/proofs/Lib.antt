@@ -1,12 +1,8 @@
 pub mod Cases
-pub mod Amounts
 pub mod Assembly
 pub mod ByNumber
 pub mod Computed
-pub mod Grounds
-pub mod NoWorse
 pub mod Outcomes
 pub mod Recognition
 pub mod Reports
-pub mod Unmet
 pub mod ValueBounds

@@ -1,9 +1,9 @@
--- The laws of outcomes: what is left out is worth nothing, and what stays recognised keeps its value. Assumes nothing.
+-- The laws of outcomes: what is left out is worth nothing, and has its ground by its number. Assumes nothing.
 use Prim.Native.Nat.{ℕ, _≤_}
 use mathlib.Core.Path.{_≡_, refl, sym}
 use mathlib.Core.Bool.{Bool, true, false}
 use mathlib.Core.List.{List}
-use mathlib.Core.Logic.{_⊎_, inl, inr, ⊎-elim, _≢_}
+use mathlib.Core.Logic.{_⊎_, inl, inr, ⊎-elim}
 use native.Mathlib.Omega.{arith}
 use lib.Dec.{eqb}
 use borrow.Author.Tests.{eqb-true}
@@ -11,18 +11,11 @@ use Rattle.base.specs.Choice.{if_then_else_}
 use Rattle.base.specs.FirstMet.{Test, firstMet}
 use Rattle.base.proofs.Choice.{either, never}
 use Rattle.base.proofs.FirstMet.{NoneMet, EachGives, none-met, first-holds, gives-more}
-use Rattle.relief.specs.declared.outcome.Outcome.{Outcome}
 use Rattle.relief.specs.declared.outcome.Outcome.the-variants.{Valued, LeftOut}
 use Rattle.relief.specs.Grounds.{groundNumber, groundWith}
 use Rattle.relief.specs.Outcomes.{outcomeValue, outcomeGround, outcomeFor}
 -- the computed cases are checked before the laws
 use Rattle.relief.proofs.Cases.{collateral-order, guarantee-order, guarantee-value}
-
--- an outcome with a ground has value 0
-pub left-out-value : (o : Outcome) → outcomeGround o ≢ 0 → outcomeValue o ≡ 0
-unfolding outcomeGround outcomeValue
-left-out-value (Valued v) h = absurd (h refl)
-left-out-value (LeftOut g) h = refl
 
 -- the ground by its number, where that is a ground's or 0; and the value
 abbrev pub Known : ℕ → Type 0
@@ -61,14 +54,6 @@ value-recognised v ts n = rw (none-met ts n)
 pub value-or-none : (v : ℕ) (ts : List (Test ℕ)) → LeaveOut v ts → (outcomeValue (outcomeFor (firstMet ts) v) ≡ 0) ⊎ NoneMet ts
 value-or-none v ts out =
     first-holds 0 (λ n. (outcomeValue (outcomeFor n v) ≡ 0) ⊎ NoneMet ts) ts (gives-more (λ n z. inl z) ts (out .worthless)) (λ n. inr n)
-
--- no smaller, where recognition and then the value are kept
-pub value-mono : (v v′ : ℕ) (ts ts′ : List (Test ℕ)) → LeaveOut v ts → (NoneMet ts → NoneMet ts′ × (v ≤ v′)) →
-    outcomeValue (outcomeFor (firstMet ts) v) ≤ outcomeValue (outcomeFor (firstMet ts′) v′)
-value-mono v v′ ts ts′ out kept =
-    ⊎-elim (λ z. omega (arith, z))
-    (λ n. omega (arith, value-recognised v ts n, value-recognised v′ ts′ (kept n .0), kept n .1))
-    (value-or-none v ts out)
 
 -- no more than a bound of the value
 pub value-bound : (v bound : ℕ) (ts : List (Test ℕ)) → LeaveOut v ts → v ≤ bound → outcomeValue (outcomeFor (firstMet ts) v) ≤ bound

@@ -1,38 +1,23 @@
--- The laws of reports, for every table and every record. Assumes nothing.
-use Prim.Native.Nat.{ℕ, _+_, _≤_, _<_}
-use mathlib.Core.Path.{_≡_, refl, ap, _∙_}
+-- The report of a record that is accepted and of one that is not; and a portion for each guarantee. Assumes nothing.
+use Prim.Native.Nat.{ℕ}
+use mathlib.Core.Path.{_≡_, ap}
 use mathlib.Core.Bool.{true, false, not}
 use mathlib.Core.List.{List, [], _∷_}
-use mathlib.Core.Logic.{_≢_}
 use native.Mathlib.Omega.{arith}
-use native.Mathlib.Nat.{not-suc-le-zero}
-use lib.ListN.{length, getD, take, length-map, List·getD-map}
+use lib.ListN.{length, length-map}
 use Rattle.base.specs.FirstMet.{_when_}
-use Rattle.base.specs.Sum.{sumOf}
-use Rattle.base.proofs.Choice.{either, if-true, if-false}
+use Rattle.base.proofs.Choice.{if-true, if-false}
 use Rattle.base.proofs.FirstMet.{none-met}
 use Rattle.base.proofs.Tests.{not-false}
-use Rattle.base.proofs.Sum.{sum-map}
-use Rattle.base.proofs.Places.{length-zip}
-use Rattle.base.proofs.Placed.{sum-past, sum-places, sum-zip, zip-at, places-hold}
 use Rattle.tables.specs.Table.{Table}
-use Rattle.cover.specs.Cover.{portion, portions, covered, uncovered}
-use Rattle.cover.proofs.Portions.{conserved, covered-length, covered-at, zero-covers-zero}
-use Rattle.cover.specs.declared.protection.Protection.{Protection}
-use Rattle.deal.specs.Lists.{listLimit}
+use Rattle.cover.specs.Cover.{portions, covered}
+use Rattle.cover.proofs.Portions.{covered-length}
 use Rattle.deal.specs.Records.{accepted}
-use Rattle.deal.specs.Fields.{zeroGuarantee}
 use Rattle.deal.specs.Views.{View, viewOf}
-use Rattle.deal.specs.declared.guarantee.Guarantee.{Guarantee}
 use Rattle.deal.specs.declared.deal.Deal.{Deal}
-use Rattle.relief.specs.declared.guarantee.GuaranteeReport.{GuaranteeReport}
-use Rattle.relief.specs.declared.report.Report.{Report}
-use Rattle.relief.specs.Outcomes.{outcomeValue, outcomeGround}
-use Rattle.relief.specs.Recognition.{guaranteeOutcome, protectionOf}
+use Rattle.relief.specs.Guarantees.{protectionOf}
 use Rattle.relief.specs.Exposure.{exposureAfter, piecesOf, riskWeightedAmountOf}
-use Rattle.relief.specs.Report.{noGuarantee, guaranteeReports, fullReport, refusedReport, reportRefusal, reportUnder}
-use Rattle.relief.proofs.Outcomes.{left-out-value}
-use Rattle.relief.proofs.Amounts.{exposure-bound}
+use Rattle.relief.specs.Report.{fullReport, refusedReport, reportRefusal, reportUnder}
 
 -- an accepted deal is not refused
 pub accepted-unrefused : (d : Deal) → accepted d ≡ true → reportRefusal d ≡ 0
@@ -48,11 +33,6 @@ module _ (table : Table) (d : Deal) where
   unfolding reportUnder
   report-refused e = if-false (accepted d) (fullReport table (viewOf d)) refusedReport e
 
-  -- what holds of the report of accepted deals, and of the refusal, holds of every report
-  pub every-report : (P : Report → Type 0) → (accepted d ≡ true → P (fullReport table (viewOf d))) → P refusedReport → P (reportUnder table d)
-  unfolding reportUnder
-  every-report P full refused = either P (accepted d) full (λ e. refused)
-
   -- the amounts of an accepted deal
   pub rwa-of : accepted d ≡ true → reportUnder table d .rwa ≡ riskWeightedAmountOf table (viewOf d)
   unfolding fullReport
@@ -61,11 +41,6 @@ module _ (table : Table) (d : Deal) where
   pub exposure-of : accepted d ≡ true → reportUnder table d .exposure ≡ exposureAfter table (viewOf d)
   unfolding fullReport
   exposure-of e = ap (λ r. r .exposure) (report-accepted e)
-
-  -- E* is never above the deal's amount
-  pub reported-exposure-bound : reportUnder table d .exposure ≤ d .terms .amount
-  unfolding fullReport
-  reported-exposure-bound = every-report (λ r. r .exposure ≤ d .terms .amount) (λ e. exposure-bound table (viewOf d)) (omega arith)
 
 -- Portions
 
@@ -82,74 +57,3 @@ module _ (table : Table) (v : View) where
         covered-length (exposureAfter table v) (piecesOf table v),
         length-map (v .guarantees) (protectionOf table (v .terms)),
       )
-
-  abbrev reported : Guarantee → ℕ → GuaranteeReport
-  reported g p = record { outcome = guaranteeOutcome table (v .terms) g; portion = p }
-
-  portions-reported : sumOf (λ r. r .portion) (guaranteeReports table v) ≡ sumOf (λ p. p .value) (covered (exposureAfter table v) (piecesOf table v))
-  portions-reported =
-      sum-zip reported (λ r. r .portion) (λ n. n) (λ a b. refl) (v .guarantees) shares portion-each
-      ∙ sum-map (λ n. n) (λ p. p .value) (covered (exposureAfter table v) (piecesOf table v))
-
--- THE PORTIONS AND THE REST MAKE UP THE EXPOSURE, IN EVERY REPORT
-pub report-conserved : (table : Table) (d : Deal) →
-    sumOf (λ r. r .portion) (reportUnder table d .guarantees) + reportUnder table d .uncovered ≡ reportUnder table d .exposure
-unfolding fullReport
-report-conserved table d =
-    every-report table d (λ r. sumOf (λ g. g .portion) (r .guarantees) + r .uncovered ≡ r .exposure)
-    (λ e.
-    let v = viewOf d in
-    omega (
-      arith,
-      sum-places (λ r. r .portion) listLimit noGuarantee (guaranteeReports table v) refl,
-      portions-reported table v,
-      conserved (exposureAfter table v) (piecesOf table v),
-    ))
-    (omega (arith, sum-past (λ (r : GuaranteeReport). r .portion) 0 listLimit noGuarantee refl))
-
--- "A left-out item has value 0 and covers 0"
-abbrev pub ZeroIfLeftOut : GuaranteeReport → Type 0
-ZeroIfLeftOut r = outcomeGround (r .outcome) ≢ 0 → (outcomeValue (r .outcome) ≡ 0) × (r .portion ≡ 0)
-
-module _ (table : Table) (v : View) where
-  abbrev ps : List Protection
-  ps = piecesOf table v
-
-  -- the guarantee at a place, and its piece
-  abbrev guaranteeAt : ℕ → Guarantee
-  guaranteeAt i = getD (v .guarantees) i zeroGuarantee
-
-  abbrev pieceAt : ℕ → Protection
-  pieceAt i = protectionOf table (v .terms) (guaranteeAt i)
-
-  portion-at : (i : ℕ) → i < length (v .guarantees) → getD (shares table v) i (protectionOf table (v .terms) zeroGuarantee .value) ≡
-      portion (exposureAfter table v) ps (take i ps) (pieceAt i)
-  portion-at i h =
-      let E = exposureAfter table v in
-      let none = protectionOf table (v .terms) zeroGuarantee in
-      let inside : i < length ps = omega (arith, length-map (v .guarantees) (protectionOf table (v .terms))) in
-      List·getD-map (λ p. p .value) (covered E ps) i none
-      ∙ ap (λ p. p .value) (covered-at E ps i none inside)
-      ∙ ap (λ p. portion E ps (take i ps) p) (List·getD-map (protectionOf table (v .terms)) (v .guarantees) i zeroGuarantee)
-
-  report-at : (i : ℕ) → i < length (v .guarantees) → getD (guaranteeReports table v) i noGuarantee ≡
-      reported table v (guaranteeAt i) (portion (exposureAfter table v) ps (take i ps) (pieceAt i))
-  report-at i h =
-      zip-at (reported table v) (v .guarantees) (shares table v) i zeroGuarantee (protectionOf table (v .terms) zeroGuarantee .value) noGuarantee h
-      (omega (arith, portion-each table v))
-      ∙ ap (λ n. reported table v (guaranteeAt i) n) (portion-at i h)
-
-  left-out-zero : (i : ℕ) → i < length (guaranteeReports table v) → ZeroIfLeftOut (getD (guaranteeReports table v) i noGuarantee)
-  left-out-zero i h =
-      let inside : i < length (v .guarantees) = omega (arith, length-zip (reported table v) (v .guarantees) (shares table v) (portion-each table v)) in
-      rw (report-at i inside) (λ ground.
-      let worthless = left-out-value (guaranteeOutcome table (v .terms) (guaranteeAt i)) ground in
-      (worthless, zero-covers-zero (exposureAfter table v) ps (take i ps) (pieceAt i) worthless))
-
--- WHAT IS LEFT OUT HAS VALUE 0 AND COVERS 0, IN EVERY PLACE OF EVERY REPORT
-pub left-out-covers-zero : (table : Table) (d : Deal) (i : ℕ) → ZeroIfLeftOut (getD (reportUnder table d .guarantees) i noGuarantee)
-unfolding fullReport outcomeGround
-left-out-covers-zero table d i =
-    every-report table d (λ r. ZeroIfLeftOut (getD (r .guarantees) i noGuarantee))
-    (λ e. places-hold ZeroIfLeftOut noGuarantee listLimit (guaranteeReports table (viewOf d)) (λ ground. absurd (ground refl)) (left-out-zero table (viewOf d)) i)
-    (places-hold ZeroIfLeftOut noGuarantee listLimit [] (λ ground. absurd (ground refl)) (λ j h. absurd (not-suc-le-zero h)) i)

@@ -3,7 +3,7 @@ use Prim.Native.Nat.{_*_, _≤_}
 use mathlib.Core.Path.{_≡_}
 use mathlib.Core.Bool.{true}
 use mathlib.Core.List.{List, map}
-use native.Mathlib.Nat.{le-trans, mul-le-mul}
+use native.Mathlib.Nat.{le-trans, mul-le-mul-right}
 use native.Mathlib.Omega.{arith}
 use lib.Dec.{eqb}
 use borrow.Author.Tests.{eqb-true, le-leb}
@@ -17,7 +17,8 @@ use Rattle.scaling.proofs.Periods.{period-bound}
 use Rattle.valuation.proofs.Values.{recognised-le}
 use Rattle.cover.specs.Cover.{weightedSum}
 use Rattle.cover.specs.Limits.{withinLimits}
-use Rattle.cover.proofs.Laws.{weighted-bound}
+use Rattle.cover.proofs.Bounds.{weighted-low}
+use Rattle.cover.proofs.Limits.{each-small}
 use Rattle.deal.specs.Editions.{tableFor}
 use Rattle.deal.specs.Guarantees.{guaranteeRefusal}
 use Rattle.deal.specs.Views.{View}
@@ -26,11 +27,17 @@ use Rattle.deal.specs.declared.terms.Terms.{Terms}
 use Rattle.deal.specs.declared.collateral.Collateral.{Collateral}
 use Rattle.deal.specs.declared.guarantee.Guarantee.{Guarantee}
 use Rattle.relief.specs.Outcomes.{outcomeValue}
-use Rattle.relief.specs.Recognition.{collateralValue, collateralGrounds, collateralGround, collateralOutcome, counterpartyWeightOf, guaranteeValue, guaranteeGrounds, guaranteeGround, guaranteeOutcome, providerWeightOf, protectionOf}
+use Rattle.relief.specs.Weights.{counterpartyWeightOf, providerWeightOf}
+use Rattle.relief.specs.Collateral.{collateralValue, collateralGrounds, collateralGround, collateralOutcome}
+use Rattle.relief.specs.Guarantees.{guaranteeValue, guaranteeGrounds, guaranteeGround, guaranteeOutcome, protectionOf}
 use Rattle.relief.specs.Exposure.{exposureAfter, scaledLentHaircut, piecesOf}
-use Rattle.relief.proofs.Amounts.{all-lower-weighted, exposure-bound}
 use Rattle.relief.proofs.Outcomes.{value-bound}
 use Rattle.relief.proofs.Recognition.{collateral-leaves, guarantee-leaves}
+
+-- "never above the deal's amount"
+pub exposure-bound : (table : Table) (v : View) → exposureAfter table v ≤ v .terms .amount
+unfolding exposureAfter
+exposure-bound table v = omega arith
 
 -- no item is worth more than its amount, whatever the table
 module _ (table : Table) (t : Terms) where
@@ -70,10 +77,10 @@ pieces-small t gs e =
         and-true _ _ (le-leb _ _ (le-trans (guarantee-le (tableFor t) t g) (p .amount))) (le-leb _ _ (provider-low t g p))
 
 -- so the weighted sum of a deal fits
-pub sum-low : (v : View) → PlainTerms (v .terms) →
+pub sum-low : (v : View) → PlainTerms (v .terms) → allPass (v .guarantees) (λ g. eqb (guaranteeRefusal g) 0) ≡ true →
     let table = tableFor (v .terms) in
     weightedSum (counterpartyWeightOf table (v .terms)) (exposureAfter table v) (piecesOf table v) ≤ 1000000000000 * 1000
-sum-low v p =
+sum-low v p e =
     let table = tableFor (v .terms) in
-    le-trans (weighted-bound _ _ (piecesOf table v) (all-lower-weighted table v))
-    (mul-le-mul (le-trans (exposure-bound table v) (p .amount)) (counterparty-low (v .terms) p))
+    le-trans (weighted-low 1000 (exposureAfter table v) (piecesOf table v) (each-small (piecesOf table v) (pieces-small (v .terms) (v .guarantees) e)) _ (counterparty-low (v .terms) p))
+    (mul-le-mul-right 1000 (le-trans (exposure-bound table v) (p .amount)))

@@ -12,7 +12,8 @@ use Rattle.deal.specs.Views.{viewOf}
 use Rattle.deal.specs.declared.deal.Deal.{Deal}
 use Rattle.relief.specs.declared.outcome.Outcome.{Outcome}
 use Rattle.relief.specs.Outcomes.{outcomeGround, outcomeValue}
-use Rattle.relief.specs.Recognition.{collateralGround, collateralValue, guaranteeGround, guaranteeValue}
+use Rattle.relief.specs.Collateral.{collateralGround, collateralValue}
+use Rattle.relief.specs.Guarantees.{guaranteeGround, guaranteeValue}
 
 -- a place: its ground's number, 0 for none, and its value. (A guarantee's portion is a number of the report already)
 pub record Place : Type 0 where

@@ -12,7 +12,9 @@ use Rattle.deal.specs.Views.{View}
 use Rattle.deal.specs.declared.terms.Terms.{Terms}
 use Rattle.deal.specs.declared.collateral.Collateral.{Collateral}
 use Rattle.relief.specs.Outcomes.{outcomeValue}
-use Rattle.relief.specs.Recognition.{collateralOutcome, protectionOf, counterpartyWeightOf}
+use Rattle.relief.specs.Weights.{counterpartyWeightOf}
+use Rattle.relief.specs.Collateral.{collateralOutcome}
+use Rattle.relief.specs.Guarantees.{protectionOf}
 
 -- the lent goods' haircut, over the deal's own period
 unfoldable pub scaledLentHaircut : Table → Terms → ℕ

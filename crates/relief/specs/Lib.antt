@@ -1,7 +1,11 @@
 pub mod ByNumber
+pub mod Collateral
 pub mod Exposure
 pub mod Grounds
+pub mod Guarantees
+pub mod Maturity
 pub mod Outcomes
-pub mod Recognition
+pub mod Portions
 pub mod Report
-pub mod Working
+pub mod TimeFactors
+pub mod Weights

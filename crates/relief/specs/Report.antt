@@ -19,7 +19,8 @@ use Rattle.relief.specs.declared.outcome.Outcome.the-variants.{Valued}
 use Rattle.relief.specs.declared.collateral.CollateralReport.{CollateralReport}
 use Rattle.relief.specs.declared.guarantee.GuaranteeReport.{GuaranteeReport}
 use Rattle.relief.specs.declared.report.Report.{Report}
-use Rattle.relief.specs.Recognition.{collateralOutcome, guaranteeOutcome}
+use Rattle.relief.specs.Collateral.{collateralOutcome}
+use Rattle.relief.specs.Guarantees.{guaranteeOutcome}
 use Rattle.relief.specs.Exposure.{exposureAfter, piecesOf, riskWeightedAmountOf}
 
 -- "Places past a count hold value 0 and portion 0"

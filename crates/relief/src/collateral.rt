@@ -9,7 +9,7 @@ ghost use Rattle.deal.specs.Lists.{listLimit};
 ghost use Rattle.base.specs.Places.{inPlaces};
 ghost use Rattle.scaling.specs.Period.{holdingPeriod};
 ghost use Rattle.scaling.specs.TimeFactor.{IsTimeFactor};
-ghost use Rattle.relief.specs.Recognition.{collateralOutcome, combinedHaircutOf};
+ghost use Rattle.relief.specs.Collateral.{collateralOutcome, combinedHaircutOf};
 ghost use Rattle.relief.specs.Exposure.{collateralTotal};
 ghost use Rattle.relief.specs.Report.{collateralReport, noCollateral};
 use crate::ground::Ground;
@@ -62,7 +62,7 @@ fn outcome_after_haircut(terms: Terms, item: Collateral, haircut: u64) -> Outcom
     Outcome::Valued(recognised(item.amount, haircut, item.residual, terms.residual))
 }
 
-// One item of collateral, under the root of the deal's period.
+// One item of collateral, under the time factor of the deal's period.
 pub fn collateral_outcome(terms: Terms, item: Collateral, factor: TimeFactor) -> Outcome
     requires { ⌜ (item .amount ≤ 1000000000000) × ((factor .period ≡ holdingPeriod (terms .kind) (terms .interval)) × IsTimeFactor factor) ⌝ }
     ensures { λ r. ⌜ r ≡ collateralOutcome (tableFor terms) terms item ⌝ }

@@ -21,7 +21,7 @@ pub fn scaled_lent_haircut(terms: Terms, factor: TimeFactor) -> u64
     factor.scale(lent_haircut(lent.goods, lent.step, lent.life))
 }
 
-// The exposure raised by that haircut, less the collateral's total, and never more than the deal's amount.
+// The exposure, volatility-adjusted by that haircut, less the collateral's total, and never more than the deal's amount.
 pub fn exposure_after(terms: Terms, haircut: u64, total: u64) -> u64
     requires { ⌜ (termsRefusal terms ≡ 0) × (haircut ≡ scaledLentHaircut (tableFor terms) terms) ⌝ }
     ensures { λ r. ⌜ r ≡ min (terms .amount) (adjustedExposureOf (tableFor terms) terms - total) ⌝ }

@@ -1,7 +1,7 @@
-// The roots of a deal's holding periods. Deals that stand one behind the other often share them.
+// The time factors of a deal's holding periods. Deals that stand one behind the other often share them.
 ghost use mathlib.Core.Path.{_≡_};
 ghost use Rattle.deal.specs.Terms.{termsRefusal};
-ghost use Rattle.relief.specs.Working.{BothTimeFactors, TimeFactorsOf};
+ghost use Rattle.relief.specs.TimeFactors.{BothTimeFactors, TimeFactorsOf};
 use deal::terms::Terms;
 use scaling::factor::TimeFactor;
 use scaling::period::guarantee_period;

@@ -1,34 +1,27 @@
-// What a deal's guarantees are worth, and at which risk weight.
-ghost use mathlib.Core.Bool.{true};
-ghost use mathlib.Core.List.{map, zipWith, _++_};
+// What one guarantee is worth, and at which risk weight.
 ghost use mathlib.Core.Path.{_≡_};
 ghost use Prim.Native.Nat.{_≤_};
-ghost use lib.ListN.{drop, replicate, take};
-ghost use Rattle.base.specs.Places.{inPlaces};
 ghost use Rattle.deal.specs.Editions.{tableFor};
-ghost use Rattle.deal.specs.Guarantees.{countedGuarantees, guaranteeListAllowed, guaranteeRefusal};
-ghost use Rattle.deal.specs.Lists.{listLimit};
+ghost use Rattle.deal.specs.Guarantees.{guaranteeRefusal};
 ghost use Rattle.scaling.specs.Period.{guaranteePeriod};
 ghost use Rattle.scaling.specs.TimeFactor.{IsTimeFactor};
 ghost use Rattle.valuation.specs.Haircuts.{scaledCurrencyHaircut};
-ghost use Rattle.relief.specs.Recognition.{counterpartyWeightOf, guaranteeOutcome, isUnratedEntity, protectionOf, providerWeightOf};
-ghost use Rattle.relief.specs.Report.{noGuarantee};
-ghost use Rattle.relief.specs.Working.{covering, noProtection, withoutPortion};
+ghost use Rattle.relief.specs.Weights.{counterpartyWeightOf, providerWeightOf};
+ghost use Rattle.relief.specs.Guarantees.{guaranteeOutcome, isUnratedEntity, protectionOf};
 use crate::ground::Ground;
 use crate::maturity::short_original;
 use crate::maturity::short_residual;
 use crate::outcome::Outcome;
 use cover::protection::Protection;
 use deal::guarantee::Guarantee;
-use deal::guarantee::GuaranteeList;
 use deal::terms::Terms;
 use scaling::factor::TimeFactor;
+use tables::classes::OTHER_ENTITY;
 use tables::weights::provider_weight;
 use valuation::haircuts::scaled_currency_haircut;
 use valuation::protection::recognised;
 
-const OTHER_ENTITY: u64 = 3;
-
+// What is reported of it.
 pub struct GuaranteeReport {
     pub outcome: Outcome,
     // What it covers of the exposure after collateral.
@@ -39,12 +32,6 @@ pub struct GuaranteeReport {
 pub struct ValuedGuarantee {
     pub outcome: Outcome,
     pub protection: Protection,
-}
-
-// What all guarantees come to, in order of adding, before they cover anything.
-pub struct GuaranteeValues {
-    pub reports: [GuaranteeReport; 16],
-    pub protections: [Protection; 16],
 }
 
 fn unrated_entity(item: Guarantee) -> bool
@@ -93,7 +80,7 @@ fn outcome_after_haircut(
     Outcome::Valued(recognised(item.amount, haircut, item.residual, terms.residual))
 }
 
-// One guarantee; `counterparty_weight` is the counterparty's weight, `root` that of the guarantees' period.
+// One guarantee; `counterparty_weight` is the counterparty's, `factor` that of the guarantees' period.
 pub fn guarantee_outcome(
     terms: Terms,
     item: Guarantee,
@@ -113,68 +100,4 @@ pub fn guarantee_outcome(
         outcome,
         protection: Protection { value, weight },
     }
-}
-
-// Every guarantee of a deal.
-pub fn value_guarantees(
-    terms: Terms,
-    list: GuaranteeList,
-    counterparty_weight: u64,
-    factor: TimeFactor,
-) -> GuaranteeValues
-    requires { ⌜ (guaranteeListAllowed list ≡ true) × («counterparty_weight» ≡ counterpartyWeightOf (tableFor terms) terms) ⌝ }
-    requires { ⌜ (factor .period ≡ guaranteePeriod (terms .interval)) × IsTimeFactor factor ⌝ }
-    ensures { λ r. ⌜ r .reports ≡ inPlaces listLimit noGuarantee (map (withoutPortion (tableFor terms) terms) (countedGuarantees list)) ⌝ }
-    ensures { λ r. ⌜ r .protections ≡ inPlaces listLimit noProtection (map (protectionOf (tableFor terms) terms) (countedGuarantees list)) ⌝ }
-{
-    let items = list.items;
-    let count = list.count;
-    let none = GuaranteeReport {
-        outcome: Outcome::Valued(0),
-        portion: 0,
-    };
-    let mut reports = [none; 16];
-    let mut protections = [Protection::NONE; 16];
-    let mut i: usize = 0;
-    while i < count {
-        let item = items[i];
-        let valued = guarantee_outcome(terms, item, counterparty_weight, factor);
-        let outcome = valued.outcome;
-        reports[i] = GuaranteeReport {
-            outcome,
-            portion: 0,
-        };
-        let protection = valued.protection;
-        protections[i] = protection;
-        i += 1;
-    }
-    GuaranteeValues {
-        reports,
-        protections,
-    }
-}
-
-// The reports with their portions.
-pub fn with_portions(
-    values: [GuaranteeReport; 16],
-    portions: [u64; 16],
-    count: usize,
-) -> [GuaranteeReport; 16]
-    requires { ⌜ count ≤ 16 ⌝ }
-    ensures { λ r. ⌜ r ≡ zipWith covering (take count values) (take count portions) ++ drop count (replicate 16 noGuarantee) ⌝ }
-{
-    let none = GuaranteeReport {
-        outcome: Outcome::Valued(0),
-        portion: 0,
-    };
-    let mut reports = [none; 16];
-    let mut i: usize = 0;
-    while i < count {
-        let value = values[i];
-        let outcome = value.outcome;
-        let portion = portions[i];
-        reports[i] = GuaranteeReport { outcome, portion };
-        i += 1;
-    }
-    reports
 }

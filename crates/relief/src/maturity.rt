@@ -1,6 +1,6 @@
 // Maturity mismatches that leave protection out.
 ghost use mathlib.Core.Path.{_≡_};
-ghost use Rattle.relief.specs.Recognition.{shortOriginal, shortResidual};
+ghost use Rattle.relief.specs.Maturity.{shortOriginal, shortResidual};
 use deal::terms::Terms;
 
 // Days: a year, and three months.

@@ -8,16 +8,16 @@ ghost use Rattle.deal.specs.Editions.{tableFor};
 ghost use Rattle.deal.specs.Views.{viewOf};
 ghost use Rattle.relief.specs.ByNumber.{collateralPlaces, guaranteePlaces, placeOf};
 ghost use Rattle.relief.specs.Report.{fullReport, refusedReport, reportOf, reportRefusal};
-ghost use Rattle.relief.specs.Working.{TimeFactorsOf};
+ghost use Rattle.relief.specs.TimeFactors.{TimeFactorsOf};
 use crate::collateral::CollateralReport;
 use crate::collateral::value_collateral;
 use crate::exposure::exposure_after;
 use crate::exposure::scaled_lent_haircut;
 use crate::factors::TimeFactors;
 use crate::guarantee::GuaranteeReport;
-use crate::guarantee::value_guarantees;
-use crate::guarantee::with_portions;
+use crate::guarantees::value_guarantees;
 use crate::outcome::Outcome;
+use crate::portions::with_portions;
 use crate::weight::weight_of;
 use cover::cover::cover;
 use deal::answer::Answer;
@@ -63,7 +63,7 @@ pub fn refused() -> Report
     }
 }
 
-// The report of an accepted deal with these lists, given the roots of its periods.
+// The report of an accepted deal with these lists, given the time factors of its periods.
 pub fn full_report(
     terms: Terms,
     collateral: CollateralList,

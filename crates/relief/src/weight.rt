@@ -2,7 +2,7 @@
 ghost use mathlib.Core.Path.{_≡_};
 ghost use Rattle.deal.specs.Editions.{tableFor};
 ghost use Rattle.deal.specs.Terms.{termsRefusal};
-ghost use Rattle.relief.specs.Recognition.{counterpartyWeightOf};
+ghost use Rattle.relief.specs.Weights.{counterpartyWeightOf};
 use deal::terms::Terms;
 use tables::weights::counterparty_weight;
 

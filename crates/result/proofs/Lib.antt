@@ -1,4 +1,3 @@
-pub mod Decimal
 pub mod Digits
 pub mod Examples
 pub mod Lines

@@ -37,6 +37,6 @@ share-too-small H n w c h k e q = go (decLe (H * H * n) (10 * c * c))
         absurd (omega (arith, e, scaled-le 1000000 n {b = w - 1} (of-the-whole H n c (w - 1) h share le), whole-some n k))
     go (no gt) = omega arith
 
--- a root of no period
+-- the factor of no period
 pub factor-none : IsTimeFactor (record { period = 0; millionths = 0 })
 factor-none = record { short = omega arith; scaled-millionths = omega (arith, scaled-le 1000000 0 {b = 0} (omega arith)) }

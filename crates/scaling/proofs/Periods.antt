@@ -1,4 +1,4 @@
--- The laws of holding periods. Assumes nothing.
+-- Bounds of holding periods, and the paper's periods computed. Assumes nothing.
 use Prim.Native.Nat.{ℕ, _+_, _≤_}
 use native.Mathlib.Omega.{arith}
 use mathlib.Core.Path.{_≡_, refl}
@@ -6,21 +6,13 @@ use mathlib.Core.List.{[], _∷_, map}
 use Rattle.base.specs.Choice.{if_then_else_}
 use lib.Dec.{eqb}
 use Rattle.base.proofs.Choice.{either}
+use Rattle.tables.specs.Kinds.{repoStyle, otherCapitalMarket}
 use Rattle.scaling.specs.Period.{minimumPeriod, holdingPeriod, guaranteePeriod}
 
 minimum-bound : (kind : ℕ) → minimumPeriod kind ≤ 20
 unfolding minimumPeriod
 minimum-bound kind =
-    either (λ m. m ≤ 20) (eqb kind 1) (λ e. omega arith) (λ e. either (λ m. m ≤ 20) (eqb kind 2) (λ e. omega arith) (λ e. omega arith))
-
--- more frequent revaluation, no longer a period
-pub period-mono : (kind : ℕ) {i j : ℕ} → i ≤ j → holdingPeriod kind i ≤ holdingPeriod kind j
-unfolding holdingPeriod
-period-mono kind h = omega arith
-
-pub guarantee-mono : {i j : ℕ} → i ≤ j → guaranteePeriod i ≤ guaranteePeriod j
-unfolding guaranteePeriod
-guarantee-mono h = omega arith
+    either (λ m. m ≤ 20) (eqb kind repoStyle) (λ e. omega arith) (λ e. either (λ m. m ≤ 20) (eqb kind otherCapitalMarket) (λ e. omega arith) (λ e. omega arith))
 
 pub period-bound : (kind interval : ℕ) → holdingPeriod kind interval ≤ interval + 20
 unfolding holdingPeriod

@@ -5,7 +5,7 @@ use native.Mathlib.Omega.{arith}
 use native.Mathlib.Nat.{le-trans, mul-le-mul, mul-le-mul-left, le-mul-of-pos-right}
 use native.Mathlib.Decide.{decLe}
 use borrow.Author.Tests.{leb-true, le-leb}
-use Rattle.base.proofs.Least.{least-is, least-mono, least-unique}
+use Rattle.base.proofs.Least.{least-is, least-unique}
 use Rattle.scaling.specs.Scaling.{enough, scaled, IsScaled}
 
 abbrev Enough : ℕ → ℕ → ℕ → Type 0
@@ -36,11 +36,6 @@ scaled-by-step H n low fails passes = least-unique (record { passes = passes; lo
         go : Dec (k ≤ low) → low + 1 ≤ k
         go (yes le) = absurd (omega (arith, larger le))
         go (no gt) = omega arith
-
--- a larger haircut, a longer period: no smaller
-pub scaled-mono : {H H′ n n′ : ℕ} → H ≤ H′ → n ≤ n′ → scaled H n ≤ scaled H′ n′
-scaled-mono {H} {H′} {n} {n′} p q =
-    least-mono (λ k e. le-trans (mul-le-mul (mul-le-mul p p) q) e) (scaled-is H n) (scaled-is H′ n′)
 
 -- a bound that is enough
 pub scaled-le : (H n : ℕ) {b : ℕ} → H * H * n ≤ 10 * b * b → scaled H n ≤ b

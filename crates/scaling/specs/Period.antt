@@ -2,16 +2,7 @@
 use Prim.Native.Nat.{ℕ, _+_, _-_}
 use lib.Dec.{eqb}
 use Rattle.base.specs.Choice.{if_then_else_}
-
--- kinds of transaction; the third is secured lending
-abbrev pub repoStyle : ℕ
-repoStyle = 1
-
-abbrev pub otherCapitalMarket : ℕ
-otherCapitalMarket = 2
-
-abbrev pub securedLending : ℕ
-securedLending = 3
+pub use Rattle.tables.specs.Kinds.{repoStyle, otherCapitalMarket, securedLending}
 
 -- "kinds 1, 2, 3 have minimum 5, 10, 20 business days". CRE22.61
 unfoldable pub minimumPeriod : ℕ → ℕ

@@ -10,7 +10,7 @@ const WHOLE: u64 = 1_000_000;
 
 pub struct TimeFactor {
     pub period: u64,
-    // The whole, scaled to the period: the square root of period / 10 in millionths, rounded up.
+    // The square-root-of-time factor: the whole scaled to the period, the square root of period / 10 in millionths, rounded up.
     pub millionths: u64,
 }
 
@@ -23,7 +23,7 @@ impl TimeFactor {
         TimeFactor { period, millionths }
     }
 
-    // The root of a period, which may be the one at hand.
+    // The factor of a period, which may be the one at hand.
     pub fn for_period(self, period: u64) -> TimeFactor
         requires { ⌜ (period ≤ 1000) × IsTimeFactor self ⌝ }
         ensures { λ r. ⌜ (r .period ≡ period) × IsTimeFactor r ⌝ }
@@ -43,7 +43,7 @@ impl TimeFactor {
         if target == 0 {
             return 0;
         }
-        // The whole less 1 is below the root, so its share of the haircut is too small.
+        // The scaled whole less 1 is below the factor, so its share of the haircut is too small.
         let mut h = haircut * (self.millionths - 1) / WHOLE + 1;
         while 10 * h * h < target {
             h += 1;

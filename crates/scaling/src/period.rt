@@ -2,12 +2,10 @@
 ghost use mathlib.Core.Path.{_≡_};
 ghost use Prim.Native.Nat.{_≤_};
 ghost use Rattle.scaling.specs.Period.{minimumPeriod, holdingPeriod, guaranteePeriod};
+use tables::kinds::OTHER_CAPITAL_MARKET;
+use tables::kinds::REPO_STYLE;
 
-pub const REPO_STYLE: u64 = 1;
-
-pub const OTHER_CAPITAL_MARKET: u64 = 2;
-
-// The minimum holding period of a kind of transaction; the third kind is secured lending.
+// The minimum holding period of a kind of transaction: the last is that of secured lending.
 fn minimum_period(kind: u64) -> u64
     ensures { λ r. ⌜ (r ≡ minimumPeriod kind) × (r ≤ 20) ⌝ }
 {

@@ -10,10 +10,11 @@ use borrow.Author.Tests.{leb-true, eqb-false}
 use Rattle.base.specs.Choice.{if_then_else_}
 use Rattle.base.proofs.Choice.{either}
 use Rattle.base.proofs.Every.{every, every-at}
+use Rattle.tables.specs.Classes.{retail}
 use Rattle.tables.specs.Eligibility.{eligible}
 use Rattle.tables.specs.Goods.{cash, sovereignDebt, securitisation, mainIndexEquity, otherListedEquity, gold}
 use Rattle.tables.specs.Haircuts.{cell, rowOf, bandOf, issuerColumn, debtHaircut, haircut, lentHaircut}
-use Rattle.tables.specs.Weights.{weights, stepColumn, retail, tableWeight, providerWeight, counterpartyWeight}
+use Rattle.tables.specs.Weights.{weights, stepColumn, tableWeight, providerWeight, counterpartyWeight}
 use Rattle.tables.proofs.Bands.{band-below}
 
 row-below : (step : ℕ) → rowOf step < 3
@@ -69,4 +70,4 @@ provider-bound class step hc hs = table-bound class step hc hs
 pub counterparty-bound : (class step : ℕ) → class ≤ 4 → step ≤ 6 → counterpartyWeight class step ≤ 150
 unfolding counterpartyWeight
 counterparty-bound class step hc hs =
-    either (λ w. w ≤ 150) (eqb class retail) (λ e. omega arith) (λ e. table-bound class step (omega (arith, eqb-false class 4 e)) hs)
+    either (λ w. w ≤ 150) (eqb class retail) (λ e. omega arith) (λ e. table-bound class step (omega (arith, eqb-false class retail e)) hs)

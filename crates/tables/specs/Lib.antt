@@ -1,4 +1,6 @@
 pub mod Goods
+pub mod Classes
+pub mod Kinds
 pub mod Eligibility
 pub mod Haircuts
 pub mod Weights

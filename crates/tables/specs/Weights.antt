@@ -5,8 +5,9 @@ use mathlib.Core.List.{List, [], _∷_}
 use lib.Dec.{eqb}
 use lib.ListN.{getD}
 use Rattle.base.specs.Choice.{if_then_else_}
+pub use Rattle.tables.specs.Classes.{retail}
 
--- a row each: 1 sovereign; 2 bank; 3 corporate, other entity. In a row: steps 1 to 6, unrated
+-- a row for each class: sovereign; bank; corporate and other entity. In a row: steps 1 to 6, unrated
 abbrev pub weights : List (List ℕ)
 weights =
     (0 ∷ 20 ∷ 50 ∷ 100 ∷ 100 ∷ 150 ∷ 100 ∷ [])
@@ -21,13 +22,10 @@ stepColumn step = if eqb step 0 then 6 else step - 1
 unfoldable pub tableWeight : ℕ → ℕ → ℕ
 tableWeight class step = getD (getD weights (class - 1) []) (stepColumn step) 0
 
--- a provider of protection: 1 sovereign, 2 bank or securities firm (CRE20.16), 3 other entity. CRE22.91(1)
+-- a provider of protection, a securities firm as a bank (CRE20.16). CRE22.91(1)
 unfoldable pub providerWeight : ℕ → ℕ → ℕ
 providerWeight class step = tableWeight class step
 
-abbrev pub retail : ℕ
-retail = 4
-
--- a counterparty: 1 sovereign, 2 bank, 3 corporate, 4 retail. "Retail is 75"
+-- a counterparty. "Retail is 75"
 unfoldable pub counterpartyWeight : ℕ → ℕ → ℕ
 counterpartyWeight class step = if eqb class retail then 75 else tableWeight class step

@@ -1,11 +1,12 @@
 // Risk weights in percent.
 ghost use mathlib.Core.Path.{_≡_};
-ghost use Prim.Native.Nat.{_≤_, _<_};
+ghost use Prim.Native.Nat.{_≤_};
 ghost use Rattle.tables.specs.Weights.{tableWeight, providerWeight, counterpartyWeight};
+use crate::classes::RETAIL;
 
-pub const RETAIL_CLASS: u64 = 4;
+pub const RETAIL_CLASS: u64 = RETAIL;
 
-const RETAIL: u64 = 75;
+const RETAIL_WEIGHT: u64 = 75;
 
 // By class (sovereign; bank; corporate and other entity) and step, the unrated step 0 first.
 const WEIGHTS: [[u64; 7]; 3] = [
@@ -34,8 +35,8 @@ pub fn counterparty_weight(class: u64, step: u64) -> u64
     requires { ⌜ (1 ≤ class) × ((class ≤ 4) × (step ≤ 6)) ⌝ }
     ensures { λ r. ⌜ r ≡ counterpartyWeight class step ⌝ }
 {
-    if class == RETAIL_CLASS {
-        return RETAIL;
+    if class == RETAIL {
+        return RETAIL_WEIGHT;
     }
     table_weight(class, step)
 }

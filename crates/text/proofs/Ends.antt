@@ -13,7 +13,8 @@ use Rattle.base.proofs.Choice.{if-true, if-false}
 use Rattle.base.proofs.Every.{both}
 use Rattle.base.proofs.Tests.{told-not-false}
 use Rattle.text.specs.Text.{firstLine, lineFeed}
-use Rattle.text.specs.Working.{Near, noFeeds}
+use Rattle.text.specs.NoFeeds.{noFeeds}
+use Rattle.text.specs.WithinLine.{Near}
 
 module _ (text : List ℕ) (at : ℕ) where
   pub fed : at < length text → getD text at 0 ≡ lineFeed → length (firstLine (drop at text)) ≡ 1

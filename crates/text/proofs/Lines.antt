@@ -2,7 +2,7 @@
 use Prim.Native.Nat.{ℕ, suc, _+_, _-_, _≤_, _<_}
 use mathlib.Core.Path.{_≡_, refl, sym, _∙_, ap}
 use mathlib.Core.Bool.{Bool, true, false, not}
-use mathlib.Core.List.{List, [], _∷_, _++_}
+use mathlib.Core.List.{List, [], _∷_}
 use native.Mathlib.Omega.{arith}
 use borrow.Author.Tests.{eqb-true, eqb-false, ne-eqb}
 use lib.Dec.{eqb}
@@ -12,7 +12,7 @@ use Rattle.base.specs.All.{allPass}
 use Rattle.base.proofs.Every.{both}
 use Rattle.base.proofs.Tests.{told-not-false}
 use Rattle.base.proofs.Choice.{if-true, if-false}
-use Rattle.text.specs.Text.{lineFeed, startsWith, firstLine, extendFirst, linesOf, ended}
+use Rattle.text.specs.Text.{lineFeed, startsWith, firstLine, extendFirst, linesOf}
 
 -- where a byte is a line feed, and where it is none
 module _ (b : ℕ) (bs : List ℕ) where
@@ -24,11 +24,11 @@ module _ (b : ℕ) (bs : List ℕ) where
   unfolding firstLine
   first-unfed e = if-false _ _ _ e
 
-  lines-fed : eqb b lineFeed ≡ true → linesOf (b ∷ bs) ≡ (b ∷ []) ∷ linesOf bs
+  pub lines-fed : eqb b lineFeed ≡ true → linesOf (b ∷ bs) ≡ (b ∷ []) ∷ linesOf bs
   unfolding linesOf
   lines-fed e = if-true _ _ _ e
 
-  lines-unfed : eqb b lineFeed ≡ false → linesOf (b ∷ bs) ≡ extendFirst b (linesOf bs)
+  pub lines-unfed : eqb b lineFeed ≡ false → linesOf (b ∷ bs) ≡ extendFirst b (linesOf bs)
   unfolding linesOf
   lines-unfed e = if-false _ _ _ e
 
@@ -81,18 +81,6 @@ lines-first b (c ∷ cs) = go (lines-first c cs) (eqb b lineFeed) refl
     go : linesOf (c ∷ cs) ≡ firstAndRest (c ∷ cs) → (t : Bool) → eqb b lineFeed ≡ t → linesOf (b ∷ c ∷ cs) ≡ firstAndRest (b ∷ c ∷ cs)
     go h true e = rw (lines-fed b (c ∷ cs) e, first-fed b (c ∷ cs) e)
     go h false e = rw (lines-unfed b (c ∷ cs) e, first-unfed b (c ∷ cs) e, h)
-
--- a text that ends in a line feed and another have the lines of both
-pub lines-append : (a b : List ℕ) → ended a ≡ true → linesOf (a ++ b) ≡ linesOf a ++ linesOf b
-unfolding extendFirst ended
-lines-append [] b h = rw no-lines
-lines-append (x ∷ []) b h = lines-fed x b h ∙ rw (lines-fed x [] h, no-lines)
-lines-append (x ∷ y ∷ ys) b h = go (lines-append (y ∷ ys) b h) (eqb x lineFeed) refl
-  where
-    go : linesOf (y ∷ (ys ++ b)) ≡ linesOf (y ∷ ys) ++ linesOf b → (t : Bool) → eqb x lineFeed ≡ t
-        → linesOf (x ∷ y ∷ (ys ++ b)) ≡ linesOf (x ∷ y ∷ ys) ++ linesOf b
-    go k true e = rw (lines-fed x (y ∷ (ys ++ b)) e, lines-fed x (y ∷ ys) e, k)
-    go k false e = rw (lines-unfed x (y ∷ (ys ++ b)) e, lines-unfed x (y ∷ ys) e, k, lines-first y ys)
 
 -- a start without a line feed is that of the first line
 pub starts-first : (prefix text : List ℕ) → allPass prefix (λ p. not (eqb p lineFeed)) ≡ true → startsWith prefix (firstLine text) ≡ startsWith prefix text

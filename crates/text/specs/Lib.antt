@@ -1,4 +1,5 @@
 pub mod Bytes
 pub mod Decimal
+pub mod NoFeeds
 pub mod Text
-pub mod Working
+pub mod WithinLine

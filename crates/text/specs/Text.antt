@@ -41,9 +41,3 @@ linesOf (b ∷ bs) = if eqb b lineFeed then (b ∷ []) ∷ linesOf bs else exten
 unfoldable pub firstLine : List ℕ → List ℕ
 firstLine [] = []
 firstLine (b ∷ bs) = if eqb b lineFeed then b ∷ [] else b ∷ firstLine bs
-
--- whether a text ends in a line feed or is empty, so that what follows it starts a line
-unfoldable pub ended : List ℕ → Bool
-ended [] = true
-ended (b ∷ []) = eqb b lineFeed
-ended (b ∷ c ∷ bs) = ended (c ∷ bs)

@@ -3,7 +3,8 @@ ghost use mathlib.Core.Path.{_≡_};
 ghost use Prim.Native.Nat.{_+_, _≤_};
 ghost use lib.ListN.{drop, length};
 ghost use Rattle.text.specs.Text.{firstLine, sameBytes, startsWith};
-ghost use Rattle.text.specs.Working.{Near, noFeeds};
+ghost use Rattle.text.specs.NoFeeds.{noFeeds};
+ghost use Rattle.text.specs.WithinLine.{Near};
 
 pub const TAB: u8 = 9;
 

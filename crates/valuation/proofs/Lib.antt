@@ -1,3 +1,2 @@
 pub mod CombinedHaircut
 pub mod Values
-pub mod Amounts

@@ -1,4 +1,4 @@
--- A cut: haircuts scaled to a holding period n, in millionths.
+-- Haircuts scaled to a holding period n, in millionths.
 -- 01: Haircuts in millionths, "Each haircut is scaled by itself, before any sum"
 use Prim.Native.Nat.{ℕ, _+_}
 use lib.Dec.{eqb}

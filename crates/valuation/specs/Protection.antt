@@ -4,7 +4,8 @@ use mathlib.Core.Bool.{Bool}
 use lib.Dec.{ltb}
 use Rattle.base.specs.Choice.{if_then_else_}
 
--- "1,000,000 less the item's scaled haircuts, or 0 if they reach 1,000,000" (the library's difference is never below 0)
+-- "Keep share: 1,000,000 less the item's scaled haircuts, or 0 if they reach 1,000,000". The term is document 01's own; CRE22.40 has it as
+-- 1 − Hc − Hfx. (The library's difference is never below 0)
 unfoldable pub keepShare : ℕ → ℕ
 keepShare haircut = 1000000 - haircut
 

@@ -1,9 +1,9 @@
-// The exposure raised by the haircut of goods lent, and the weighted amount. Both are rounded up.
+// The volatility-adjusted exposure and the weighted amount, both rounded up.
 ghost use mathlib.Core.Path.{_≡_};
 ghost use Prim.Native.Nat.{_≤_};
 ghost use Rattle.valuation.specs.Exposure.{volatilityAdjustedExposure as volatilityAdjustedExposureOf, riskWeightedAmount as riskWeightedOf};
 
-// The exposure raised by a scaled haircut, in millionths of it.
+// The exposure with a scaled haircut, in millionths of it, added.
 pub fn volatility_adjusted_exposure(amount: u64, haircut: u64) -> u64
     requires { ⌜ (amount ≤ 1000000000000) × (haircut ≤ 10000000) ⌝ }
     ensures { λ r. ⌜ r ≡ volatilityAdjustedExposureOf amount haircut ⌝ }

@@ -6,7 +6,7 @@ ghost use Rattle.valuation.specs.Haircuts.{scaledCurrencyHaircut, combin
 use scaling::factor::TimeFactor;
 use tables::haircuts::CURRENCY;
 
-// The currency haircut, over the period of this root.
+// The currency haircut, over this factor's period.
 pub fn scaled_currency_haircut(factor: TimeFactor, currency: u64, deal_currency: u64) -> u64
     requires { ⌜ IsTimeFactor factor ⌝ }
     ensures { λ r. ⌜ r ≡ scaledCurrencyHaircut currency «deal_currency» (factor .period) ⌝ }

@@ -4,7 +4,7 @@ use borrow.Author.Tests.{ne-eqb}
 use native.Mathlib.Omega.{arith}
 use lib.ListN.{length}
 use Rattle.base.proofs.Tests.{tests}
-use Rattle.text.specs.Working.{Near}
+use Rattle.text.specs.WithinLine.{Near}
 use Rattle.text.proofs.Ends.{fed, nearer, past}
 use Rattle.text.proofs.line_end.Statement.{statement}
 use Rattle.text.proofs.line_end.Tie as tie

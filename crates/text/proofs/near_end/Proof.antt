@@ -3,7 +3,7 @@ use Prim.Native.Nat.{_-_}
 use native.Mathlib.Omega.{arith}
 use lib.ListN.{length}
 use Rattle.base.proofs.Tests.{told-not-true}
-use Rattle.text.specs.Working.{Near}
+use Rattle.text.specs.WithinLine.{Near}
 use Rattle.text.proofs.Ends.{near-start, nearer-by}
 use Rattle.text.proofs.near_end.Statement.{statement}
 use Rattle.text.proofs.near_end.Tie as tie

@@ -1,6 +1,6 @@
 -- `text::no_feed_in_eight` meets its contract. Assumes nothing.
 use native.Mathlib.Nat.{add-zero}
-use Rattle.text.specs.Working.{noFeeds}
+use Rattle.text.specs.NoFeeds.{noFeeds}
 use Rattle.base.proofs.Tests.{tests}
 use Rattle.text.proofs.no_feed_in_eight.Statement.{statement}
 use Rattle.text.proofs.no_feed_in_eight.Tie as tie

@@ -14,7 +14,8 @@ use Rattle.deal.specs.declared.terms.Terms.{Terms}
 use Rattle.lines.specs.Lines.{lineOf}
 use Rattle.book.specs.Answers.{openingRefusal, linesAnswer}
 use Rattle.book.specs.Deals.{ownLines}
-use Rattle.book.specs.Working.{firstDeal, openingTerms}
+use Rattle.book.specs.Opening.{openingTerms}
+use Rattle.book.specs.Start.{firstDeal}
 use Rattle.book.proofs.Answering.{componentwise, opened-answer, opening-terms, unopened-answer}
 use Rattle.book.proofs.Grouping.{opens-some}
 use Rattle.book.proofs.Passing.{deal-read}

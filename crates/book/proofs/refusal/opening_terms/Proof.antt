@@ -1,5 +1,5 @@
 -- `book::refusal::opening_terms` meets its contract: by what the line says. Assumes nothing.
-use Rattle.book.specs.Working.{openingTerms}
+use Rattle.book.specs.Opening.{openingTerms}
 use Rattle.base.proofs.Tests.{tests}
 use Rattle.book.proofs.refusal.opening_terms.Statement.{statement}
 use Rattle.book.proofs.refusal.opening_terms.Tie as tie

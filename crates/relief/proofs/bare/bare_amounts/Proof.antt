@@ -1,16 +1,16 @@
 -- `relief::bare::bare_amounts` meets its contract: all of the exposure bears the counterparty's weight. Assumes nothing.
 use Prim.Native.Nat.{_*_, _≤_}
-use mathlib.Core.Path.{_≡_, sym, ap, _∙_}
+use mathlib.Core.Path.{_≡_, refl, sym, ap, _∙_}
 use mathlib.Core.List.{[]}
 use native.Mathlib.Omega.{arith}
 use Rattle.base.specs.Sum.{sumOf}
 use Rattle.valuation.specs.Exposure.{riskWeightedAmount}
 use Rattle.cover.specs.Cover.{weightedSum}
-use Rattle.cover.proofs.Laws.{none-covers}
+use Rattle.cover.proofs.Bounds.{none-covers}
 use Rattle.deal.specs.Editions.{tableFor}
 use Rattle.deal.specs.Views.{unprotected}
 use Rattle.deal.proofs.Plain.{plain-terms}
-use Rattle.relief.specs.Recognition.{counterpartyWeightOf}
+use Rattle.relief.specs.Weights.{counterpartyWeightOf}
 use Rattle.relief.specs.Exposure.{collateralTotal, exposureAfter, riskWeightedAmountOf}
 use Rattle.relief.proofs.ValueBounds.{sum-low}
 use Rattle.relief.proofs.bare.bare_amounts.Statement.{statement}
@@ -42,7 +42,7 @@ module _ (c : tie.After-weight-of) where
       ∙ sym (none-covers _ _)
 
   low : c .before .exposure-after .result * c .weight-of .result ≤ 1000000000000 * 1000
-  low = omega (arith, sum-is, sum-low (unprotected (start .args .terms)) (plain-terms (start .args .terms) (start .pre .0)))
+  low = omega (arith, sum-is, sum-low (unprotected (start .args .terms)) (plain-terms (start .args .terms) (start .pre .0)) refl)
 
 mul-risk-weighted-amount : tie.Need-mul-risk-weighted-amount
 mul-risk-weighted-amount c = omega (arith, low c)

@@ -1,8 +1,8 @@
--- `relief::collateral::value_item` meets its contract. Assumes nothing.
+-- `relief::collateral::collateral_outcome` meets its contract. Assumes nothing.
 use native.Mathlib.Omega.{arith}
 use Rattle.tables.proofs.Bounds.{haircut-bound}
 use Rattle.deal.specs.Editions.{tableFor}
-use Rattle.relief.specs.Recognition.{combinedHaircutOf}
+use Rattle.relief.specs.Collateral.{combinedHaircutOf}
 use Rattle.relief.proofs.collateral.collateral_outcome.Statement.{statement}
 use Rattle.relief.proofs.collateral.collateral_outcome.Tie as tie
 

@@ -13,7 +13,7 @@ use Rattle.deal.specs.declared.terms.Terms.{Terms}
 use Rattle.deal.specs.declared.collateral.Collateral.{Collateral}
 use Rattle.relief.specs.Grounds.{groundWith}
 use Rattle.relief.specs.Outcomes.{outcomeFor}
-use Rattle.relief.specs.Recognition.{collateralValue, collateralGrounds, collateralGround, collateralOutcome}
+use Rattle.relief.specs.Collateral.{collateralValue, collateralGrounds, collateralGround, collateralOutcome}
 use Rattle.relief.proofs.collateral.outcome_after_haircut.Statement.{statement}
 use Rattle.relief.proofs.collateral.outcome_after_haircut.Tie as tie
 

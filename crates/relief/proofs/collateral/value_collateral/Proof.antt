@@ -17,7 +17,7 @@ use Rattle.deal.specs.Fields.{zeroCollateral}
 use Rattle.deal.proofs.Plain.{collateral-count, collateral-at}
 use Rattle.relief.specs.declared.collateral.CollateralReport.{CollateralReport}
 use Rattle.relief.specs.Outcomes.{outcomeValue}
-use Rattle.relief.specs.Recognition.{collateralOutcome}
+use Rattle.relief.specs.Collateral.{collateralOutcome}
 use Rattle.relief.specs.Exposure.{collateralTotal}
 use Rattle.relief.specs.Report.{collateralReport, noCollateral}
 use Rattle.relief.proofs.ValueBounds.{collateral-le}

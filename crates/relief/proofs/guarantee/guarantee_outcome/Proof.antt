@@ -1,8 +1,8 @@
--- `relief::guarantee::value_item` meets its contract. Assumes nothing.
+-- `relief::guarantee::guarantee_outcome` meets its contract. Assumes nothing.
 use mathlib.Core.Path.{_≡_}
 use Rattle.deal.specs.Editions.{tableFor}
 use Rattle.deal.proofs.Plain.{PlainGuarantee, plain-guarantee}
-use Rattle.relief.specs.Recognition.{providerWeightOf}
+use Rattle.relief.specs.Weights.{providerWeightOf}
 use Rattle.relief.proofs.guarantee.guarantee_outcome.Statement.{statement}
 use Rattle.relief.proofs.guarantee.guarantee_outcome.Tie as tie
 

@@ -13,7 +13,8 @@ use Rattle.deal.specs.declared.terms.Terms.{Terms}
 use Rattle.deal.specs.declared.guarantee.Guarantee.{Guarantee}
 use Rattle.relief.specs.Grounds.{groundWith}
 use Rattle.relief.specs.Outcomes.{outcomeFor}
-use Rattle.relief.specs.Recognition.{guaranteeValue, guaranteeGrounds, guaranteeGround, guaranteeOutcome, counterpartyWeightOf, providerWeightOf}
+use Rattle.relief.specs.Weights.{counterpartyWeightOf, providerWeightOf}
+use Rattle.relief.specs.Guarantees.{guaranteeValue, guaranteeGrounds, guaranteeGround, guaranteeOutcome}
 use Rattle.relief.proofs.guarantee.outcome_after_haircut.Statement.{statement}
 use Rattle.relief.proofs.guarantee.outcome_after_haircut.Tie as tie
 

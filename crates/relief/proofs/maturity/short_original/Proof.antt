@@ -1,6 +1,6 @@
 -- `relief::maturity::short_original` meets its contract. Assumes nothing.
 use Rattle.base.proofs.Tests.{tests}
-use Rattle.relief.specs.Recognition.{shortOriginal}
+use Rattle.relief.specs.Maturity.{shortOriginal}
 use Rattle.relief.proofs.maturity.short_original.Statement.{statement}
 use Rattle.relief.proofs.maturity.short_original.Tie as tie
 

@@ -1,6 +1,6 @@
 -- `relief::maturity::short_residual` meets its contract. Assumes nothing.
 use Rattle.base.proofs.Tests.{tests}
-use Rattle.relief.specs.Recognition.{shortResidual}
+use Rattle.relief.specs.Maturity.{shortResidual}
 use Rattle.relief.proofs.maturity.short_residual.Statement.{statement}
 use Rattle.relief.proofs.maturity.short_residual.Tie as tie
 

@@ -3,9 +3,10 @@ use Prim.Native.Nat.{_-_, _≤_, min}
 use mathlib.Core.Path.{_≡_, ap, _∙_}
 use mathlib.Core.Bool.{true}
 use native.Mathlib.Omega.{arith}
-use lib.Dec.{leb}
+use lib.Dec.{leb, eqb}
 use lib.ListN.{length, take, length-map}
 use lib.Seq.{length-take-le}
+use Rattle.base.specs.All.{allPass}
 use Rattle.base.proofs.Arrays.{unmapped}
 use Rattle.base.proofs.Every.{both}
 use Rattle.base.proofs.Places.{taken}
@@ -15,19 +16,19 @@ use Rattle.cover.specs.Cover.{coverOf}
 use Rattle.deal.specs.Records.{dealOf}
 use Rattle.deal.specs.Editions.{tableFor}
 use Rattle.deal.specs.Collateral.{collateralListAllowed}
-use Rattle.deal.specs.Guarantees.{guaranteeListAllowed}
+use Rattle.deal.specs.Guarantees.{guaranteeListAllowed, guaranteeRefusal}
 use Rattle.deal.specs.Terms.{termsRefusal}
 use Rattle.deal.specs.Views.{View, viewOf}
 use Rattle.deal.specs.declared.answer.Answer.the-variants.{Accepted}
 use Rattle.deal.proofs.Deals.{accepted-allowed, allowed-parts}
 use Rattle.deal.proofs.Plain.{PlainTerms, plain-terms, guarantee-count}
-use Rattle.relief.specs.Recognition.{counterpartyWeightOf, protectionOf}
+use Rattle.relief.specs.Weights.{counterpartyWeightOf}
+use Rattle.relief.specs.Guarantees.{protectionOf}
 use Rattle.relief.specs.Exposure.{adjustedExposureOf, exposureAfter, piecesOf, riskWeightedAmountOf}
 use Rattle.relief.specs.Report.{fullReport}
-use Rattle.relief.specs.Working.{noProtection}
-use Rattle.relief.proofs.Amounts.{exposure-bound}
+use Rattle.relief.specs.Portions.{noProtection}
 use Rattle.relief.proofs.Assembly.{guarantees-assembled, same-report, same-cover}
-use Rattle.relief.proofs.ValueBounds.{counterparty-low, pieces-small, sum-low}
+use Rattle.relief.proofs.ValueBounds.{counterparty-low, exposure-bound, pieces-small, sum-low}
 use Rattle.relief.proofs.report.full_report.Statement.{statement}
 use Rattle.relief.proofs.report.full_report.Tie as tie
 
@@ -50,6 +51,10 @@ module _ (c : tie.Start) where
 
   long : length (c .args .guarantees .items) ≡ 16
   long = search (unmapped, c .good)
+
+  each-taken : allPass (view .guarantees) (λ g. eqb (guaranteeRefusal g) 0) ≡ true
+  unfolding guaranteeListAllowed
+  each-taken = both (leb (c .args .guarantees .count) 16) _ (parts .1 .1) .1
 
   counted : length (view .guarantees) ≡ c .args .guarantees .count
   counted = length-take-le (c .args .guarantees .count) (c .args .guarantees .items) (omega (arith, long, count))
@@ -95,18 +100,16 @@ module _ (c : tie.After-exposure-after) where
       (length-map (view start .guarantees) (protectionOf (table start) (start .args .terms)) ∙ counted start)
 
 cover-requires : tie.Need-cover-requires
-unfolding guaranteeListAllowed
 cover-requires c κs =
     let e = c .before in
     let s = start e in
-    let p = plain s in
-    let g = s .args .guarantees in (
+    let p = plain s in (
       count s,
       (
         omega (arith, exposure-is e, exposure-bound (table s) (view s), p .amount),
         (
           omega (arith, weight-is e, counterparty-low (s .args .terms) p),
-          rw (pieces-are e) (pieces-small (s .args .terms) (view s .guarantees) (both (leb (g .count) 16) _ (parts s .1 .1) .1)),
+          rw (pieces-are e) (pieces-small (s .args .terms) (view s .guarantees) (each-taken s)),
         ),
       ),
     )
@@ -124,7 +127,7 @@ risk-weighted-amount-requires : tie.Need-risk-weighted-amount-requires
 risk-weighted-amount-requires c κs =
     let v = c .before .before .before .before in
     let s = start (v .before .before) in
-    omega (arith, ap (λ x. x .«weighted_sum») (cover-is v), sum-low (view s) (plain s))
+    omega (arith, ap (λ x. x .«weighted_sum») (cover-is v), sum-low (view s) (plain s) (each-taken s))
 
 returns : tie.Need-returns
 unfolding fullReport riskWeightedAmountOf

@@ -1,4 +1,4 @@
--- `valuation::exposure::weighted` meets its contract. Assumes nothing.
+-- `valuation::exposure::risk_weighted_amount` meets its contract. Assumes nothing.
 use Rattle.base.proofs.Tests.{tests}
 use Rattle.base.specs.Rounding.{roundUp}
 use Rattle.valuation.specs.Exposure.{riskWeightedAmount}

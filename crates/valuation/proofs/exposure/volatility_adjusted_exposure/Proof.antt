@@ -1,4 +1,4 @@
--- `valuation::exposure::raised` meets its contract. Assumes nothing.
+-- `valuation::exposure::volatility_adjusted_exposure` meets its contract. Assumes nothing.
 use Prim.Native.Nat.{_+_, _≤_}
 use native.Mathlib.Omega.{arith}
 use native.Mathlib.Nat.{mul-le-mul}

@@ -1,4 +1,4 @@
--- `valuation::protection::adjusted` meets its contract. Assumes nothing.
+-- `valuation::protection::maturity_adjusted` meets its contract. Assumes nothing.
 use Prim.Native.Nat.{_-_, _≤_, min}
 use mathlib.Core.Path.{_≡_, sym}
 use native.Mathlib.Omega.{arith}

@@ -1,4 +1,4 @@
--- `valuation::protection::reduced` meets its contract. Assumes nothing.
+-- `valuation::protection::volatility_adjusted_value` meets its contract. Assumes nothing.
 use Prim.Native.Nat.{_≤_}
 use native.Mathlib.Omega.{arith}
 use native.Mathlib.Nat.{mul-le-mul}

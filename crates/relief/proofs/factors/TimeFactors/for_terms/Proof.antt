@@ -1,4 +1,4 @@
--- `relief::roots::TimeFactors::for_terms` meets its contract. Assumes nothing.
+-- `relief::factors::TimeFactors::for_terms` meets its contract. Assumes nothing.
 use mathlib.Core.Path.{_∙_}
 use native.Mathlib.Omega.{arith}
 use Rattle.scaling.proofs.Periods.{period-bound, guarantee-bound}

@@ -1,4 +1,4 @@
--- `scaling::root::TimeFactor::scale` meets its contract: every number below the one that is tried is too small. Assumes nothing.
+-- `scaling::factor::TimeFactor::scale` meets its contract: every number below the one that is tried is too small. Assumes nothing.
 use Prim.Native.Nat.{ℕ, _+_, _*_, _-_, _/_, _≤_, _<_}
 use mathlib.Core.Path.{_≡_}
 use native.Mathlib.Omega.{arith}

@@ -1,0 +1,11 @@
+-- Each refusal of a book exactly where it is due. Assumes nothing.
+use Prim.Native.Nat.{ℕ}
+use mathlib.Core.Path.{refl}
+use mathlib.Core.List.{List}
+use Rattle.base.proofs.FirstMet.{Exact, exact}
+use Rattle.book.specs.Book.{bookTests}
+
+-- where its own test is met and none before it
+pub book-exact : (book : List ℕ) (places : ℕ) → Exact (bookTests book places)
+unfolding bookTests
+book-exact book places = exact (bookTests book places) refl

@@ -1,0 +1,4 @@
+pub mod SumBelow
+pub mod Layers
+pub mod Weighted
+pub mod Order

@@ -1,0 +1,9 @@
+pub mod Haircuts
+pub mod Values
+pub mod Rounded
+pub mod NoWorse
+pub mod Unmet
+pub mod Recognition
+pub mod Amounts
+pub mod Grounds
+pub mod Reports
