@@ -21,7 +21,7 @@ use Rattle.deal.specs.Fields.{collateralFields, guaranteeFields}
 use Rattle.deal.specs.Views.{View, acceptedView}
 use Rattle.betterment.specs.Betterments.{SmallerStep, OneOf, BetterItem, BetterCollateral, BetterGuarantee, BetterTerms, OneChanged, OneMore, Better}
 use Rattle.betterment.specs.Places.{changedCollateral, changedGuarantee}
-use Rattle.deal.proofs.Views.{FitsView, view-fits, collateralFits, guaranteeFits}
+use Rattle.deal_laws.proofs.Views.{FitsView, view-fits, collateralFits, guaranteeFits}
 
 -- a smaller step is a better one
 smaller : {old new : ℕ} → SmallerStep old new → SameOrBetter old new

@@ -8,8 +8,8 @@ use native.Mathlib.Nat.{not-suc-le-zero}
 use Rattle.tables.specs.Table.{Table, TableLaws}
 use Rattle.deal.specs.Records.{accepted, withoutProtection}
 use Rattle.deal.specs.Editions.{tableFor}
-use Rattle.deal.proofs.Editions.{lawful}
-use Rattle.deal.proofs.Exact.{accepted-fits, fits-accepted}
+use Rattle.deal_laws.proofs.Editions.{lawful}
+use Rattle.deal_laws.proofs.Exact.{accepted-fits, fits-accepted}
 use Rattle.deal.specs.declared.terms.Terms.{Terms}
 use Rattle.deal.specs.declared.deal.Deal.{Deal}
 use Rattle.relief.specs.Exposure.{riskWeightedAmountOf}
@@ -18,7 +18,7 @@ use Rattle.relief_laws.proofs.Amounts.{no-higher-than-without}
 use Rattle.relief.proofs.Reports.{rwa-of}
 use Rattle.deal.specs.Views.{View, viewOf, acceptedView, recordOf}
 use Rattle.betterment.specs.Betterments.{BetterTerms, Better, Betterments, NeverRaised, NeverRaisedUnder}
-use Rattle.deal.proofs.Views.{accepted-view, can-be-made}
+use Rattle.deal_laws.proofs.Views.{accepted-view, can-be-made}
 use Rattle.betterment.proofs.Steps.{better-lowers}
 
 -- every deal reached from an accepted one is accepted

@@ -12,7 +12,7 @@ use Rattle.deal.specs.Records.{recordAllowed}
 use Rattle.deal.specs.declared.deal.Deal.{Deal}
 use Rattle.deal.specs.declared.terms.Terms.{Terms}
 use Rattle.deal.proofs.Deals.{accepted-allowed, allowed-accepted, new-accepted}
-use Rattle.deal.proofs.Exact.{collateral-40, guarantee-40}
+use Rattle.deal_laws.proofs.Exact.{collateral-40, guarantee-40}
 use Rattle.lines.specs.Lines.{lineOf}
 use Rattle.lines.specs.declared.line.Line.{Line}
 use Rattle.lines.specs.declared.line.Line.the-variants.{DealLine, CollateralLine, GuaranteeLine, Malformed}

@@ -1,10 +1,7 @@
 pub mod Cases
 pub mod Answers
 pub mod Deals
-pub mod Editions
-pub mod Exact
 pub mod BothWays
 pub mod Lists
 pub mod Plain
 pub mod SameChecks
-pub mod Views

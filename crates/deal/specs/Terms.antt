@@ -4,6 +4,7 @@ use mathlib.Core.Bool.{Bool, true, _&&_}
 use mathlib.Core.List.{List}
 use Rattle.base.specs.FirstMet.{Test, firstMet}
 use Rattle.base.specs.Range.{within}
+use Rattle.tables.specs.Kinds.{repoStyle, securedLending}
 use Rattle.deal.specs.Ranges.{amountAllowed, currencyAllowed, intervalAllowed, daysAllowed}
 use Rattle.deal.specs.Parties.{counterpartyKnown, partyStepAllowed}
 use Rattle.deal.specs.Assets.{goodsKnown, assetStepAllowed, lifeAllowed}
@@ -13,7 +14,7 @@ use Rattle.deal.specs.declared.terms.Terms.{Terms}
 
 -- "kind (1 repo-style, 2 other capital market, 3 secured lending)"
 abbrev pub kindKnown : ℕ → Bool
-kindKnown kind = within 1 3 kind
+kindKnown kind = within repoStyle securedLending kind
 
 -- what opening asks of each field. "(a loan lends cash)" explains an entry and refuses nothing; 7 and 8 are asked of items alone
 abbrev pub termsChecks : Terms → FieldChecks

@@ -3,9 +3,9 @@ ghost use mathlib.Core.Path.{_≡_};
 ghost use Rattle.deal.specs.Parties.{counterpartyKnown, providerKnown, partyStepAllowed};
 use crate::ranges::step_allowed;
 use base::within;
-use tables::weights::RETAIL_CLASS;
-
-const LAST_PROVIDER: u64 = 3;
+use tables::classes::OTHER_ENTITY;
+use tables::classes::RETAIL;
+use tables::classes::SOVEREIGN;
 
 pub struct Party {
     pub class: u64,
@@ -17,20 +17,20 @@ impl Party {
     pub fn counterparty_known(self) -> bool
         ensures { λ r. ⌜ r ≡ counterpartyKnown self ⌝ }
     {
-        within(1, RETAIL_CLASS, self.class)
+        within(SOVEREIGN, RETAIL, self.class)
     }
 
     // Whether its class is one of a provider.
     pub fn provider_known(self) -> bool
         ensures { λ r. ⌜ r ≡ providerKnown self ⌝ }
     {
-        within(1, LAST_PROVIDER, self.class)
+        within(SOVEREIGN, OTHER_ENTITY, self.class)
     }
 
     pub fn step_allowed(self) -> bool
         ensures { λ r. ⌜ r ≡ partyStepAllowed self ⌝ }
     {
-        if self.class == RETAIL_CLASS {
+        if self.class == RETAIL {
             return self.step == 0;
         }
         step_allowed(self.step)

@@ -15,8 +15,8 @@ use crate::ranges::currency_allowed;
 use crate::ranges::days_allowed;
 use crate::ranges::interval_allowed;
 use base::within;
-
-const LAST_KIND: u64 = 3;
+use tables::kinds::REPO_STYLE;
+use tables::kinds::SECURED_LENDING;
 
 pub struct Terms {
     pub amount: u64,
@@ -33,7 +33,7 @@ pub struct Terms {
 fn kind_known(kind: u64) -> bool
     ensures { λ r. ⌜ r ≡ kindKnown kind ⌝ }
 {
-    within(1, LAST_KIND, kind)
+    within(REPO_STYLE, SECURED_LENDING, kind)
 }
 
 impl Terms {

@@ -5,9 +5,10 @@ use mathlib.Core.Path.{_≡_}
 use mathlib.Core.List.{List, [], _∷_}
 use lib.ListN.{getD}
 use Rattle.tables.specs.Goods.{cash, otherDebt, otherListedEquity}
-use Rattle.tables.specs.Weights.{retail}
+use Rattle.tables.specs.Classes.{retail}
 use Rattle.tables.specs.Table.{table2019}
-use Rattle.scaling.specs.Period.{repoStyle, securedLending, holdingPeriod}
+use Rattle.tables.specs.Kinds.{repoStyle, securedLending}
+use Rattle.scaling.specs.Period.{holdingPeriod}
 use Rattle.scaling.specs.Scaling.{IsScaled}
 use Rattle.deal.specs.Fields.{termsIn}
 use Rattle.deal.specs.Answers.{answerNumber}

@@ -5,7 +5,7 @@ use mathlib.Core.List.{List, [], _∷_}
 use lib.Dec.{eqb}
 use lib.ListN.{getD}
 use Rattle.base.specs.Choice.{if_then_else_}
-pub use Rattle.tables.specs.Classes.{retail}
+use Rattle.tables.specs.Classes.{retail}
 
 -- a row for each class: sovereign; bank; corporate and other entity. In a row: steps 1 to 6, unrated
 abbrev pub weights : List (List ℕ)

@@ -4,8 +4,6 @@ ghost use Prim.Native.Nat.{_≤_};
 ghost use Rattle.tables.specs.Weights.{tableWeight, providerWeight, counterpartyWeight};
 use crate::classes::RETAIL;
 
-pub const RETAIL_CLASS: u64 = RETAIL;
-
 const RETAIL_WEIGHT: u64 = 75;
 
 // By class (sovereign; bank; corporate and other entity) and step, the unrated step 0 first.
