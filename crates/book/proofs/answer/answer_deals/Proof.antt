@@ -24,14 +24,14 @@ abbrev toCome : List ℕ → ℕ → ℕ → List DealLines
 toCome lines at number = dealsFrom number (linesOf (drop at lines))
 
 record Holds (lines before results : List ℕ) (at number deals : ℕ) : Type 0 where
+  written : take (deals * 4) results ++ answersFrom (deals + 1) (toCome lines at number) ≡ answersFrom 1 (toCome lines 0 2)
+  behind : drop (deals * 4) results ≡ drop (deals * 4) before
   inside : at ≤ length lines
   numbered : number ≤ at + 2
   few : deals ≤ at
   begins : ownFirst (drop at lines) ≡ false
   same : length results ≡ length before
   room : (deals + length (toCome lines at number)) * 4 ≤ length before
-  written : take (deals * 4) results ++ answersFrom (deals + 1) (toCome lines at number) ≡ answersFrom 1 (toCome lines 0 2)
-  behind : drop (deals * 4) results ≡ drop (deals * 4) before
 
 abbrev Inv-loop : tie.InvT-loop
 Inv-loop lines results₀ at₀ number₀ factors₀ deals₀ results at number factors deals = Holds lines results₀ results at number deals × BothTimeFactors factors
@@ -109,18 +109,42 @@ module _
             ∙ ap (λ n. drop n before) (sym placed);
       }
 
+-- first the deal that was read, which starts where the one before it ends, and that its numbers are small
+module _ (c : tie.After-answer-deal Inv-loop μ-loop) where
+  abbrev lines₁ : List ℕ
+  lines₁ = c .before .before .before .before .before .before .args .lines .now
+
+  abbrev at₁ : ℕ
+  at₁ = c .before .before .before .loop .at
+
+  answered₁ : dealAnswer (firstDeal (c .before .before .before .loop .number) (drop at₁ lines₁))
+      ≡ c .answer-deal .result .answer .refusal ∷ c .answer-deal .result .answer .figure ∷ c .answer-deal .result .answer .rwa ∷ []
+  answered₁ = ap (λ t. dealAnswer (firstDeal (c .before .before .before .loop .number) t)) (sym (rest-part lines₁ at₁)) ∙ c .answer-deal .ensures .0 .1
+
+  read₁ : DealRead (c .before .before .before .loop .number) (drop at₁ lines₁) (c .answer-deal .result .answer .end) (c .answer-deal .result .answer .next)
+  read₁ = rw (rest-part lines₁ at₁) at (c .answer-deal .ensures .0 .0)
+
+  small : (c .before .before .before .loop .deals ≤ 65534) × ((at₁ + c .answer-deal .result .answer .end ≤ 65534) × (1 ≤ c .answer-deal .result .answer .end))
+  small =
+      let l = c .before .before .before .loop in
+      let p = c .before .before .before .before .before .before .pre .1 .0 in
+      let long = length-drop at₁ lines₁ in (
+        omega (arith, l .inv .0 .few, l .inv .0 .inside, p),
+        (omega (arith, read₁ .inside, long, c .before .before .loop-test .taken, p), read₁ .some),
+      )
+
 loop-holds : tie.Need-loop-holds Inv-loop μ-loop
 loop-holds c =
     let p = c .before .before .pre in (
       record {
+        written = refl;
+        behind = refl;
         inside = omega arith;
         numbered = omega arith;
         few = omega arith;
         begins = p .0;
         same = refl;
         room = omega (arith, p .1 .1);
-        written = refl;
-        behind = refl;
       },
       (factor-none, factor-none),
     )
@@ -147,30 +171,6 @@ answer-deal-requires c κs =
       ),
       l .inv .1,
     )
-
--- the deal that was read, and that its numbers are small
-module _ (c : tie.After-answer-deal Inv-loop μ-loop) where
-  abbrev lines₁ : List ℕ
-  lines₁ = c .before .before .before .before .before .before .args .lines .now
-
-  abbrev at₁ : ℕ
-  at₁ = c .before .before .before .loop .at
-
-  read₁ : DealRead (c .before .before .before .loop .number) (drop at₁ lines₁) (c .answer-deal .result .answer .end) (c .answer-deal .result .answer .next)
-  read₁ = rw (rest-part lines₁ at₁) at (c .answer-deal .ensures .0 .0)
-
-  answered₁ : dealAnswer (firstDeal (c .before .before .before .loop .number) (drop at₁ lines₁))
-      ≡ c .answer-deal .result .answer .refusal ∷ c .answer-deal .result .answer .figure ∷ c .answer-deal .result .answer .rwa ∷ []
-  answered₁ = rw (rest-part lines₁ at₁) at (c .answer-deal .ensures .0 .1)
-
-  small : (c .before .before .before .loop .deals ≤ 65534) × ((at₁ + c .answer-deal .result .answer .end ≤ 65534) × (1 ≤ c .answer-deal .result .answer .end))
-  small =
-      let l = c .before .before .before .loop in
-      let p = c .before .before .before .before .before .before .pre .1 .0 in
-      let long = length-drop at₁ lines₁ in (
-        omega (arith, l .inv .0 .few, l .inv .0 .inside, p),
-        (omega (arith, read₁ .inside, long, c .before .before .loop-test .taken, p), read₁ .some),
-      )
 
 mul-put-answer : tie.Need-mul-put-answer Inv-loop μ-loop
 mul-put-answer c = search (tests, small (c .before .before))

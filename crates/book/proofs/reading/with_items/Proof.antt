@@ -123,6 +123,13 @@ module _ (c : tie.At-match-came Inv-loop μ-loop) where
       (λ a. done-as (malformed-done t cs gs fits) (sym (a .1 .given .1) ∙ read) (a .4) (a .2) (a .3))))
       (c .match .came)
 
+-- first that a line that is not refused is passed, and no other
+loop-again : tie.Need-loop-again Inv-loop μ-loop
+loop-again c =
+    let m = c .before in
+    let e = line-ended m in
+    held-next _ _ _ _ _ _ _ _ (looped m .loop .inv) _ (ends e) (e .line-end .ensures) (done m) (c .if2 .left)
+
 refused-requires : tie.Need-refused-requires Inv-loop μ-loop
 refused-requires c κs =
     let e = line-ended (c .before) in
@@ -149,12 +156,6 @@ add-next-2 c =
 
 loop-less : tie.Need-loop-less Inv-loop μ-loop
 loop-less c = let e = line-ended (c .before) in omega (arith, ends e .more, ends e .inside)
-
-loop-again : tie.Need-loop-again Inv-loop μ-loop
-loop-again c =
-    let m = c .before in
-    let e = line-ended m in
-    held-next _ _ _ _ _ _ _ _ (looped m .loop .inv) _ (ends e) (e .line-end .ensures) (done m) (c .if2 .left)
 
 full-report-requires : tie.Need-full-report-requires Inv-loop μ-loop
 full-report-requires c κs = let l = c .before .before in (allowed-accepted _ (l .loop .inv .fits), start-of l .pre .1)

@@ -18,6 +18,10 @@ placed l at a b c d h =
     let same : set (set (set (set l at a) (at + 1) b) (at + 2) c) (at + 3) d ≡ sets l at (a ∷ b ∷ c ∷ d ∷ []) = rw (one, two, three) in
     same ∙ sets-eq (a ∷ b ∷ c ∷ d ∷ []) l at h
 
+-- first what it leaves in the list: four numbers in their places, and nothing behind them
+returns : tie.Need-returns
+returns c = placed _ _ _ _ _ _ (c .pre)
+
 mul-results : tie.Need-mul-results
 mul-results c = search tests
 
@@ -53,9 +57,6 @@ slice-write-results-4 c = rw (length-set, length-set, length-set) (omega (arith,
 
 same-length : tie.Need-same-length
 same-length c = search tests
-
-returns : tie.Need-returns
-returns c = placed _ _ _ _ _ _ (c .pre)
 
 pub put-answer-spec : {M : Type 1} → statement M
 put-answer-spec =

@@ -68,6 +68,10 @@ module _ (c : tie.After-portion Inv-loop μ-loop) where
       let e = all-at withinLimits _ (at-loop .loop .i) pieces none k (omega (arith, long (at-loop .before))) (at-loop .before .pre .1 .1 .1) in
       small-bounds _ e .1
 
+-- first what the loop keeps: the portions as they are, and their sum unrounded
+loop-again : tie.Need-loop-again Inv-loop μ-loop
+loop-again c = (omega arith, covering-more (at-loop c .loop .inv .1) (next c) (counted c) (omega arith))
+
 mul-portions : tie.Need-mul-portions Inv-loop μ-loop
 mul-portions c = search tests
 
@@ -93,9 +97,6 @@ add-i c = search tests
 
 loop-less : tie.Need-loop-less Inv-loop μ-loop
 loop-less c = search tests
-
-loop-again : tie.Need-loop-again Inv-loop μ-loop
-loop-again c = (omega arith, covering-more (at-loop c .loop .inv .1) (next c) (counted c) (omega arith))
 
 uncovered-small : (c : tie.After-loop Inv-loop μ-loop) → c .before .loop .uncovered * c .before .before .args .weight ≤ 1000000000000 * 1000
 uncovered-small c =

@@ -44,15 +44,15 @@ module _ (c : tie.After-weight-of) where
   low : c .before .exposure-after .result * c .weight-of .result ≤ 1000000000000 * 1000
   low = omega (arith, sum-is, sum-low (unprotected (start .args .terms)) (plain-terms (start .args .terms) (start .pre .0)) refl)
 
+returns : tie.Need-returns
+unfolding riskWeightedAmountOf
+returns c = (exposure-is (c .before), c .risk-weighted-amount .ensures ∙ ap riskWeightedAmount (sum-is (c .before)))
+
 mul-risk-weighted-amount : tie.Need-mul-risk-weighted-amount
 mul-risk-weighted-amount c = omega (arith, low c)
 
 risk-weighted-amount-requires : tie.Need-risk-weighted-amount-requires
 risk-weighted-amount-requires c κs = omega (arith, low c)
-
-returns : tie.Need-returns
-unfolding riskWeightedAmountOf
-returns c = (exposure-is (c .before), c .risk-weighted-amount .ensures ∙ ap riskWeightedAmount (sum-is (c .before)))
 
 pub bare-amounts-spec : {M : Type 1} → statement M
 bare-amounts-spec =

@@ -28,11 +28,11 @@ abbrev entry : Terms → Collateral → CollateralReport
 entry t c = collateralReport (tableFor t) t c
 
 record Holds (t : Terms) (items : List Collateral) (count : ℕ) (reports : List CollateralReport) (total i : ℕ) : Type 0 where
-  passed : i ≤ count
-  held : count ≤ 16
   reported : reports ≡ map (entry t) (take i items) ++ drop i (replicate 16 noCollateral)
   totalled : total ≡ collateralTotal (tableFor t) t (take i items)
   small : total ≤ i * 1000000000000
+  passed : i ≤ count
+  held : count ≤ 16
 
 abbrev Inv-loop : tie.InvT-loop
 Inv-loop terms factor items count reports₀ total₀ i₀ reports total i = Holds terms items count reports total i
@@ -98,11 +98,11 @@ loop-again c =
     let i = l .loop .i in
     let h : i < length items = omega (arith, long s) in
     record {
-      passed = omega arith;
-      held = l .loop .inv .held;
       reported = rw (l .loop .inv .reported, v .collateral-outcome .ensures) (fill-more (entry (s .args .terms)) zeroCollateral i items _ h (omega arith));
       totalled = rw (c .value .ensures, v .collateral-outcome .ensures, l .loop .inv .totalled) (sym (sum-take (λ x. outcomeValue (collateralOutcome (tableFor (s .args .terms)) (s .args .terms) x)) items i zeroCollateral h));
       small = omega (arith, worth c, l .loop .inv .small);
+      passed = omega arith;
+      held = l .loop .inv .held;
     }
 
 returns : tie.Need-returns Inv-loop μ-loop

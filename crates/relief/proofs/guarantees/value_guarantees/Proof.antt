@@ -21,10 +21,10 @@ use Rattle.relief.proofs.guarantees.value_guarantees.Statement.{stateme
 use Rattle.relief.proofs.guarantees.value_guarantees.Tie as tie
 
 record Holds (t : Terms) (items : List Guarantee) (count : ℕ) (reports : List GuaranteeReport) (protections : List Protection) (i : ℕ) : Type 0 where
-  passed : i ≤ count
-  held : count ≤ 16
   reported : reports ≡ map (withoutPortion (tableFor t) t) (take i items) ++ drop i (replicate 16 noGuarantee)
   protected : protections ≡ map (protectionOf (tableFor t) t) (take i items) ++ drop i (replicate 16 noProtection)
+  passed : i ≤ count
+  held : count ≤ 16
 
 abbrev Inv-loop : tie.InvT-loop
 Inv-loop terms counterparty-weight factor items count reports₀ protections₀ i₀ reports protections i = Holds terms items count reports protections i
@@ -80,10 +80,10 @@ loop-again c =
     let i = l .loop .i in
     let h : i < length items = omega (arith, long s) in
     record {
-      passed = omega arith;
-      held = l .loop .inv .held;
       reported = rw (l .loop .inv .reported, v .guarantee-outcome .ensures .0) (fill-more (withoutPortion (tableFor (s .args .terms)) (s .args .terms)) zeroGuarantee i items _ h (omega arith));
       protected = rw (l .loop .inv .protected, v .guarantee-outcome .ensures .1) (fill-more (protectionOf (tableFor (s .args .terms)) (s .args .terms)) zeroGuarantee i items _ h (omega arith));
+      passed = omega arith;
+      held = l .loop .inv .held;
     }
 
 returns : tie.Need-returns Inv-loop μ-loop

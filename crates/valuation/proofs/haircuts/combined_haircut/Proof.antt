@@ -7,6 +7,11 @@ use Rattle.valuation.proofs.CombinedHaircut.{currency-bound}
 use Rattle.valuation.proofs.haircuts.combined_haircut.Statement.{statement}
 use Rattle.valuation.proofs.haircuts.combined_haircut.Tie as tie
 
+-- first what it returns, each haircut scaled by itself
+returns : tie.Need-returns
+unfolding combinedHaircut
+returns c = rw (c .before .scale .ensures, c .scaled-currency-haircut .ensures)
+
 scale-requires : tie.Need-scale-requires
 scale-requires c κs = search tests
 
@@ -24,10 +29,6 @@ add-result c =
       scaled-bound (s .pre .0) (s .pre .1 .short),
       currency-bound (s .args .currency) (s .args .deal-currency) (s .pre .1 .short),
     )
-
-returns : tie.Need-returns
-unfolding combinedHaircut
-returns c = rw (c .before .scale .ensures, c .scaled-currency-haircut .ensures)
 
 pub combined-haircut-spec : {M : Type 1} → statement M
 combined-haircut-spec = tie.close (tie.spec scale-requires scaled-currency-haircut-requires add-result returns)
