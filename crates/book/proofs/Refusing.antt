@@ -17,7 +17,8 @@ use Rattle.book.specs.Deals.{opensDeal}
 use Rattle.book.specs.Answers.{answersFrom}
 use Rattle.book.specs.Heading.{header, headingOf, isWrong}
 use Rattle.book.specs.Start.{ownFirst}
-use Rattle.book.specs.Book.{bookTests, bookRefusal, dealsOf, answeredDeals, refusedReply, bookReply, overwrite, resultsAfter}
+use Rattle.book.specs.Book.{bookTests, bookRefusal, dealsOf, answeredDeals, refusedReply, bookReply, resultsAfter}
+use Rattle.base.specs.Writing.{overwrite}
 use Rattle.book.proofs.Grouping.{opens-first}
 use Rattle.book.proofs.Answering.{no-answers}
 

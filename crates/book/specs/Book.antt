@@ -6,6 +6,7 @@ use lib.Dec.{eqb, ltb}
 use lib.ListN.{drop, length, take}
 use Rattle.base.specs.All.{allPass}
 use Rattle.base.specs.Choice.{if_then_else_}
+use Rattle.base.specs.Writing.{overwrite}
 use Rattle.base.specs.FirstMet.{Test, _when_, firstMet}
 use Rattle.text.specs.Text.{firstLine, linesOf}
 use Rattle.book.specs.Deals.{DealLines, opensDeal, dealsFrom}
@@ -51,10 +52,6 @@ refusedReply refusal = record { refusal = refusal; deals = 0 }
 -- ANSWERING A BOOK. "The reply is the refusal, or 0, and the count of deals written"
 unfoldable pub bookReply : List ℕ → ℕ → BookReply
 bookReply book places = record { refusal = bookRefusal book places; deals = length (answeredDeals book places) }
-
--- "written from the front and nothing behind them"
-abbrev pub overwrite : List ℕ → List ℕ → List ℕ
-overwrite answers before = answers ++ drop (length answers) before
 
 -- the results list afterwards: "four numbers a deal"; refusals "leave the list untouched"
 unfoldable pub resultsAfter : List ℕ → List ℕ → List ℕ

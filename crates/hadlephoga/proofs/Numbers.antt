@@ -7,9 +7,8 @@ use native.Mathlib.Numerals.{add-one}
 use native.Mathlib.Omega.{arith}
 use lib.ListN.{length, take, getD}
 use lib.Seq.{take-all}
-use Rattle.result.specs.Placed.{Placed, placedAt}
-use Rattle.result.proofs.Placed.{placed-none, placed-joined}
-use Rattle.book.specs.Book.{overwrite}
+use Rattle.base.specs.Writing.{Placed, placedAt, overwrite}
+use Rattle.base.proofs.Writing.{placed-none, placed-joined}
 use Rattle.hadlephoga.specs.Records.{inOrder}
 
 module _ {A : Type 0} (f : A → List ℕ) where

@@ -5,7 +5,7 @@ use mathlib.Core.List.{List, [], _∷_, _++_, map, append-assoc, append-nil}
 use native.Mathlib.Omega.{arith}
 use lib.ListN.{length, take, drop, getD, length-append, length-drop, length-map, take-append-drop, drop-of-length-le}
 use lib.Seq.{drop-at, getD-at, length-take-le, take-add, take-at, take-suc}
-use Rattle.book.specs.Book.{overwrite}
+use Rattle.base.specs.Writing.{overwrite}
 use Rattle.deal.specs.Fields.{collateralFields, collateralIn, collateralWidth, guaranteeFields, guaranteeIn, guaranteeWidth, termsFields, termsIn, termsWidth}
 use Rattle.deal.specs.Lists.{listLimit}
 use Rattle.deal.specs.declared.terms.Terms.{Terms}

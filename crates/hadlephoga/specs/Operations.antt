@@ -12,7 +12,7 @@ use Rattle.deal.specs.Adding.{addCollateralTests, addGuaranteeTests, withCollat
 use Rattle.deal.specs.Records.{withoutProtection}
 use Rattle.deal.specs.Fields.{collateralIn, collateralWidth, guaranteeIn, guaranteeWidth, termsIn, termsWidth}
 use Rattle.deal.specs.Terms.{termsTests}
-use Rattle.book.specs.Book.{overwrite}
+use Rattle.base.specs.Writing.{overwrite}
 use Rattle.hadlephoga.specs.Records.{dealIn, dealNumbers, recordLength}
 
 -- Opening

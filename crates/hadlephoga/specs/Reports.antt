@@ -11,7 +11,7 @@ use Rattle.relief.specs.Report.{refusedReport, reportOf}
 use Rattle.relief.specs.declared.collateral.CollateralReport.{CollateralReport}
 use Rattle.relief.specs.declared.guarantee.GuaranteeReport.{GuaranteeReport}
 use Rattle.relief.specs.declared.report.Report.{Report}
-use Rattle.book.specs.Book.{overwrite}
+use Rattle.base.specs.Writing.{overwrite}
 use Rattle.hadlephoga.specs.Records.{dealIn, inOrder, recordLength}
 
 -- "for each item either its value or its ground": the value and the ground's number, at most one of which is not 0

@@ -2,7 +2,7 @@
 ghost use Prim.Native.Nat.{_+_, _≤_};
 ghost use mathlib.Core.List.{_∷_, []};
 ghost use lib.ListN.{length};
-ghost use Rattle.result.specs.Placed.{Placed};
+ghost use Rattle.base.specs.Writing.{Placed};
 
 pub fn put_number(list: &mut [u64], at: usize, number: u64) -> usize
     requires { ⌜ at + 1 ≤ length (now list) ⌝ }

@@ -2,9 +2,8 @@
 ghost use Prim.Native.Nat.{_+_, _≤_};
 ghost use mathlib.Core.Path.{_≡_};
 ghost use lib.ListN.{length};
-ghost use Rattle.book.specs.Book.{overwrite};
+ghost use Rattle.base.specs.Writing.{overwrite, Placed};
 ghost use Rattle.deal.specs.Fields.{collateralFields, guaranteeFields};
-ghost use Rattle.result.specs.Placed.{Placed};
 ghost use Rattle.hadlephoga.specs.Records.{collateralLength, dealNumbers, guaranteesLength, inOrder, recordLength};
 use crate::lent::put_number;
 use crate::lent::put_numbers;

@@ -8,6 +8,7 @@ use lib.ListN.{drop, replicate}
 use Rattle.base.specs.Choice.{if_then_else_}
 use Rattle.base.specs.Places.{inPlaces}
 use Rattle.text.specs.Text.{tab, lineFeed}
+use Rattle.deal.specs.Fields.{collateralWidth}
 use Rattle.lines.specs.Numbers.{numberOf}
 use Rattle.lines.specs.declared.number.Number.{Number}
 use Rattle.lines.specs.declared.number.Number.the-variants.{Value, NoNumber}
@@ -40,7 +41,11 @@ unfoldable pub fieldsOf : ℕ → List ℕ → Option (List ℕ)
 fieldsOf zero rest = if isEnd rest then some [] else none
 fieldsOf (suc n) rest = withNumber (fieldOf rest) none (λ value count. andThen value (fieldsOf n (drop (1 + count) rest)))
 
--- held in as many places as the longest line, C, has numbers; all zeros where they could not be read
+-- the longest line is C
+abbrev pub mostFields : ℕ
+mostFields = collateralWidth
+
+-- held in as many places as it has numbers; all zeros where they could not be read
 unfoldable pub fieldsHeld : Option (List ℕ) → Fields
-fieldsHeld none = record { read = false; values = replicate 11 0 }
-fieldsHeld (some values) = record { read = true; values = inPlaces 11 0 values }
+fieldsHeld none = record { read = false; values = replicate mostFields 0 }
+fieldsHeld (some values) = record { read = true; values = inPlaces mostFields 0 values }

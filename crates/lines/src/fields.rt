@@ -2,16 +2,20 @@
 ghost use mathlib.Core.Path.{_≡_};
 ghost use mathlib.Core.Option.{none};
 ghost use Prim.Native.Nat.{_≤_};
-ghost use Rattle.lines.specs.Fields.{fieldOf, fieldsHeld, fieldsOf, isEnd};
+ghost use Rattle.lines.specs.Fields.{fieldOf, fieldsHeld, fieldsOf, isEnd, mostFields};
 use crate::number::Number;
 use crate::number::read_number;
+use deal::fields::COLLATERAL_WIDTH;
 use text::LINE_FEED;
 use text::TAB;
+
+// Of the longest line, C.
+const MOST_FIELDS: usize = COLLATERAL_WIDTH;
 
 pub struct Fields {
     pub read: bool,
     // In their order, and zeros behind them.
-    pub values: [u64; 11],
+    pub values: [u64; MOST_FIELDS],
 }
 
 // The field that the rest of a line starts with.
@@ -43,16 +47,16 @@ fn unread() -> Fields
 {
     Fields {
         read: false,
-        values: [0; 11],
+        values: [0; MOST_FIELDS],
     }
 }
 
 // So many fields, which have to be the whole rest of a line up to its line feed.
 pub fn read_fields(line: &[u8], count: usize) -> Fields
-    requires { ⌜ count ≤ 11 ⌝ }
+    requires { ⌜ count ≤ mostFields ⌝ }
     ensures { λ r. ⌜ r ≡ fieldsHeld (fieldsOf count (now (line .entry))) ⌝ }
 {
-    let mut values: [u64; 11] = [0; 11];
+    let mut values: [u64; MOST_FIELDS] = [0; MOST_FIELDS];
     let mut at: usize = 0;
     let mut k: usize = 0;
     while k < count {

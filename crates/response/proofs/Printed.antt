@@ -7,7 +7,8 @@ use lib.ListN.{length, drop, length-append}
 use Rattle.result.specs.Result.{room, resultText, written}
 use Rattle.result.proofs.Lines.{text-front, written-whole}
 use Rattle.book.specs.Answers.{answersFrom}
-use Rattle.book.specs.Book.{bookRefusal, answeredDeals, bookReply, overwrite, resultsAfter}
+use Rattle.book.specs.Book.{bookRefusal, answeredDeals, bookReply, resultsAfter}
+use Rattle.base.specs.Writing.{overwrite}
 use Rattle.book.proofs.Answering.{answers-long}
 use Rattle.book.proofs.Refusing.{reply-refusal, reply-deals, results-made, answered-room}
 use Rattle.response.specs.Response.{places, printed}

@@ -3,7 +3,7 @@ ghost use mathlib.Core.Path.{_≡_};
 ghost use Prim.Native.Nat.{_+_, _≤_};
 ghost use lib.ListN.{length};
 ghost use Rattle.result.specs.Numbers.{numberText};
-ghost use Rattle.result.specs.Placed.{Placed};
+ghost use Rattle.base.specs.Writing.{Placed};
 
 // How many digits a number has.
 fn digit_count(n: u64) -> usize

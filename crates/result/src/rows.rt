@@ -3,7 +3,7 @@ ghost use mathlib.Core.List.{_∷_, [], _++_};
 ghost use Prim.Native.Nat.{_+_, _*_, _≤_};
 ghost use lib.ListN.{length, getD};
 ghost use Rattle.result.specs.Numbers.{numberText};
-ghost use Rattle.result.specs.Placed.{Placed};
+ghost use Rattle.base.specs.Writing.{Placed};
 ghost use Rattle.result.specs.Result.{row, rows};
 use crate::buffer::put_byte;
 use crate::number::put_number;

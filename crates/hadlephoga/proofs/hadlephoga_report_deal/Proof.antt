@@ -7,7 +7,7 @@ use lib.ListN.{length}
 use Rattle.base.proofs.Choice.{if-true, if-false}
 use Rattle.base.proofs.Tests.{tests}
 use Rattle.deal.specs.Answers.{answerNumber}
-use Rattle.book.specs.Book.{overwrite}
+use Rattle.base.specs.Writing.{overwrite}
 use Rattle.hadlephoga.specs.Reports.{listAfter, reportLength, reportNumbers, reportingRefusal}
 use Rattle.hadlephoga.proofs.hadlephoga_report_deal.Statement.{statement}
 use Rattle.hadlephoga.proofs.hadlephoga_report_deal.Tie as tie

@@ -10,10 +10,10 @@ use lib.ListN.{length, drop}
 use Rattle.base.proofs.Choice.{if-true, if-false}
 use Rattle.base.proofs.Tests.{tests, and-true, and-first, and-second}
 use Rattle.text.specs.Text.{lineFeed}
-use Rattle.result.specs.Placed.{placedAt, Placed}
+use Rattle.base.specs.Writing.{placedAt, Placed}
 use Rattle.result.specs.Result.{heading, refusedHeading, rows, resultText, room, fits, written}
 use Rattle.result.proofs.Lines.{field}
-use Rattle.result.proofs.Placed.{placed-joined}
+use Rattle.base.proofs.Writing.{placed-joined}
 use Rattle.result.proofs.write_result.Statement.{statement}
 use Rattle.result.proofs.write_result.Tie as tie
 

@@ -13,7 +13,8 @@ use Rattle.text.proofs.Lines.{first-inside, rest-part}
 use Rattle.book.specs.Deals.{dealsFrom}
 use Rattle.book.specs.Answers.{answersFrom}
 use Rattle.book.specs.Start.{ownFirst}
-use Rattle.book.specs.Book.{bookLimit, textBehind, bookTests, bookRefusal, overwrite}
+use Rattle.book.specs.Book.{bookLimit, textBehind, bookTests, bookRefusal}
+use Rattle.base.specs.Writing.{overwrite}
 use Rattle.book.proofs.Refusing.{heading-long, second-wrong, reply-refusal, accepted-tests, enough, refused-results, accepted-results}
 use Rattle.book.proofs.answer.answer_book.Statement.{statement}
 use Rattle.book.proofs.answer.answer_book.Tie as tie

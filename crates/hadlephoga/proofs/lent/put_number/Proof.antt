@@ -1,7 +1,7 @@
 -- `hadlephoga::lent::put_number` meets its contract: a store places one number. Assumes nothing.
 use native.Mathlib.Omega.{arith}
 use Rattle.base.proofs.Tests.{tests}
-use Rattle.result.proofs.Placed.{placed-byte}
+use Rattle.base.proofs.Writing.{placed-byte}
 use Rattle.hadlephoga.proofs.lent.put_number.Statement.{statement}
 use Rattle.hadlephoga.proofs.lent.put_number.Tie as tie
 

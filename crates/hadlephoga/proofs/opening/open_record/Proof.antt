@@ -4,7 +4,7 @@ use borrow.Author.Tests.{lt-ltb, le-ltb}
 use Rattle.base.proofs.Choice.{if-true, if-false}
 use Rattle.base.proofs.FirstMet.{met-first, not-met}
 use Rattle.base.proofs.Tests.{tests}
-use Rattle.book.specs.Book.{overwrite}
+use Rattle.base.specs.Writing.{overwrite}
 use Rattle.hadlephoga.specs.Operations.{listOpened, openingRefusalOf}
 use Rattle.hadlephoga.proofs.opening.open_record.Statement.{statement}
 use Rattle.hadlephoga.proofs.opening.open_record.Tie as tie

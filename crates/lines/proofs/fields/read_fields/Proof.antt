@@ -12,7 +12,7 @@ use Rattle.base.specs.Choice.{if_then_else_}
 use Rattle.base.specs.Places.{inPlaces}
 use Rattle.base.proofs.Places.{placed}
 use Rattle.base.proofs.Tests.{tests, told-not-true, told-not-false}
-use Rattle.lines.specs.Fields.{fieldOf, isEnd, andThen, withNumber, fieldsOf, fieldsHeld}
+use Rattle.lines.specs.Fields.{fieldOf, isEnd, andThen, withNumber, fieldsOf, fieldsHeld, mostFields}
 use Rattle.lines.specs.declared.fields.Fields.{Fields}
 use Rattle.lines.specs.declared.number.Number.the-variants.{Value, NoNumber}
 use Rattle.text.proofs.Lines.{rest-part}
@@ -28,9 +28,9 @@ prepend vs (some ws) = some (vs ++ ws)
 record Holds (line : List ℕ) (count : ℕ) (values : List ℕ) (at k : ℕ) : Type 0 where
   few : k ≤ count
   inside : at ≤ length line
-  places : length values ≡ 11
+  places : length values ≡ mostFields
   passed : fieldsOf count line ≡ prepend (take k values) (fieldsOf (count - k) (drop at line))
-  zeros : drop k values ≡ drop k (replicate 11 0)
+  zeros : drop k values ≡ drop k (replicate mostFields 0)
 
 abbrev Inv-loop : tie.InvT-loop
 Inv-loop line count values₀ at₀ k₀ values at k = Holds line count values at k
@@ -63,12 +63,12 @@ module _ (line : List ℕ) (count : ℕ) (values : List ℕ) (at k : ℕ) (held 
       held .passed ∙ rw (z, e)
 
   -- the fields passed, in their places
-  filled : k ≤ 11 → inPlaces 11 0 (take k values) ≡ values
+  filled : k ≤ mostFields → inPlaces mostFields 0 (take k values) ≡ values
   filled h =
       let l = length-take-le k values (omega (arith, held .places)) in
-      sym (placed 11 k 0 (take k values) l) ∙ ap (λ (r : List ℕ). take k values ++ r) (sym (held .zeros)) ∙ take-append-drop k values
+      sym (placed mostFields k 0 (take k values) l) ∙ ap (λ (r : List ℕ). take k values ++ r) (sym (held .zeros)) ∙ take-append-drop k values
 
-  ended : count ≤ 11 → count ≤ k → isEnd (drop at line) ≡ true → fieldsHeld (fieldsOf count line) ≡ record { read = true; values = values }
+  ended : count ≤ mostFields → count ≤ k → isEnd (drop at line) ≡ true → fieldsHeld (fieldsOf count line) ≡ record { read = true; values = values }
   unfolding fieldsOf fieldsHeld if_then_else_
   ended few h e =
       let z : count - k ≡ 0 = omega arith in
@@ -79,7 +79,7 @@ module _ (line : List ℕ) (count : ℕ) (values : List ℕ) (at k : ℕ) (held 
     below : at + 1 + n ≤ length line
     below = omega (arith, field-short (drop at line) v n e, length-drop at line, held .inside)
 
-    more : (next : ℕ) → k < count → count ≤ 11 → next ≡ at + 1 + n → Holds line count (set values k v) next (k + 1)
+    more : (next : ℕ) → k < count → count ≤ mostFields → next ≡ at + 1 + n → Holds line count (set values k v) next (k + 1)
     unfolding fieldsOf withNumber
     more next h few q =
         let s : count - k ≡ suc (count - (k + 1)) = omega arith in
@@ -92,7 +92,7 @@ module _ (line : List ℕ) (count : ℕ) (values : List ℕ) (at k : ℕ) (held 
           inside = omega (arith, q, below);
           places = length-set values k v ∙ held .places;
           passed = held .passed ∙ rw (s, e, t, d) (one-more _ _ _);
-          zeros = drop-set-lt (k + 1) values k v (omega arith) ∙ sym (drop-drop 1 k values) ∙ ap (drop 1) (held .zeros) ∙ drop-drop 1 k (replicate 11 0);
+          zeros = drop-set-lt (k + 1) values k v (omega arith) ∙ sym (drop-drop 1 k values) ∙ ap (drop 1) (held .zeros) ∙ drop-drop 1 k (replicate mostFields 0);
         }
 
 -- what the next field is read from

@@ -5,6 +5,7 @@ use lib.ListN.{length}
 use borrow.Author.Tests.{not-true, not-false}
 use Rattle.base.proofs.Choice.{if-true, if-false}
 use Rattle.base.proofs.Tests.{tests}
+use Rattle.lines.specs.Fields.{mostFields}
 use Rattle.lines.specs.Lines.{guaranteeLine, ifHeld}
 use Rattle.lines.specs.declared.line.Line.the-variants.{GuaranteeLine}
 use Rattle.lines.proofs.line.guarantee_line.Statement.{statement}
@@ -19,7 +20,7 @@ slice-aggregate-guarantee-in c = search tests
 
 guarantee-in-requires : tie.Need-guarantee-in-requires
 guarantee-in-requires c κs =
-    let e : length (c .before .before .before .before .args .fields .values) ≡ 11 = search tests in
+    let e : length (c .before .before .before .before .args .fields .values) ≡ mostFields = search tests in
     omega (arith, e)
 
 returns-2 : tie.Need-returns-2

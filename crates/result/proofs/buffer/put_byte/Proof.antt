@@ -1,6 +1,6 @@
 -- `result::buffer::put_byte` meets its contract: a store writes a text of one byte. Assumes nothing.
 use Rattle.base.proofs.Tests.{tests}
-use Rattle.result.proofs.Placed.{placed-byte}
+use Rattle.base.proofs.Writing.{placed-byte}
 use Rattle.result.proofs.buffer.put_byte.Statement.{statement}
 use Rattle.result.proofs.buffer.put_byte.Tie as tie
 

@@ -8,8 +8,8 @@ use native.Mathlib.Numerals.{add-one}
 use lib.ListN.{length, take, set, getD, length-set}
 use lib.Seq.{take-suc, take-all}
 use Rattle.base.proofs.Tests.{tests}
-use Rattle.result.specs.Placed.{Placed}
-use Rattle.result.proofs.Placed.{placed-none, placed-byte, placed-joined}
+use Rattle.base.specs.Writing.{Placed}
+use Rattle.base.proofs.Writing.{placed-none, placed-byte, placed-joined}
 use Rattle.result.proofs.buffer.put_bytes.Statement.{statement}
 use Rattle.result.proofs.buffer.put_bytes.Tie as tie
 

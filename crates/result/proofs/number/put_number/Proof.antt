@@ -6,9 +6,9 @@ use native.Mathlib.Omega.{arith}
 use lib.ListN.{length, set, length-set}
 use Rattle.base.proofs.Tests.{tests}
 use Rattle.result.specs.Numbers.{numberText}
-use Rattle.result.specs.Placed.{placedAt, Placed}
+use Rattle.base.specs.Writing.{placedAt, Placed}
 use Rattle.result.proofs.Digits.{number-short, number-last, lastDigits, last-none, last-more}
-use Rattle.result.proofs.Placed.{placed-none, placed-front}
+use Rattle.base.proofs.Writing.{placed-none, placed-front}
 use Rattle.result.proofs.number.put_number.Statement.{statement}
 use Rattle.result.proofs.number.put_number.Tie as tie
 

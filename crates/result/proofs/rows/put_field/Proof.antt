@@ -2,7 +2,7 @@
 use native.Mathlib.Omega.{arith}
 use Rattle.base.proofs.Tests.{tests}
 use Rattle.result.proofs.Digits.{number-short}
-use Rattle.result.proofs.Placed.{placed-joined}
+use Rattle.base.proofs.Writing.{placed-joined}
 use Rattle.result.proofs.rows.put_field.Statement.{statement}
 use Rattle.result.proofs.rows.put_field.Tie as tie
 

@@ -5,7 +5,7 @@ use lib.ListN.{length, getD}
 use Rattle.base.proofs.Tests.{tests}
 use Rattle.text.specs.Text.{tab}
 use Rattle.result.proofs.Lines.{field-short, row-fields}
-use Rattle.result.proofs.Placed.{placed-joined}
+use Rattle.base.proofs.Writing.{placed-joined}
 use Rattle.result.proofs.rows.put_row.Statement.{statement}
 use Rattle.result.proofs.rows.put_row.Tie as tie
 

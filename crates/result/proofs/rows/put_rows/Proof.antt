@@ -6,10 +6,10 @@ use native.Mathlib.Nat.{sub-zero}
 use native.Mathlib.Omega.{arith}
 use lib.ListN.{length, length-append, drop, getD}
 use Rattle.base.proofs.Tests.{tests}
-use Rattle.result.specs.Placed.{Placed}
+use Rattle.base.specs.Writing.{Placed}
 use Rattle.result.specs.Result.{row, rows}
 use Rattle.result.proofs.Lines.{row-short, rows-none, rows-more}
-use Rattle.result.proofs.Placed.{placed-none, placed-joined}
+use Rattle.base.proofs.Writing.{placed-none, placed-joined}
 use Rattle.result.proofs.rows.put_rows.Statement.{statement}
 use Rattle.result.proofs.rows.put_rows.Tie as tie
 

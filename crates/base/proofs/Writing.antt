@@ -7,7 +7,7 @@ use native.Mathlib.Numerals.{add-one}
 use native.Mathlib.Omega.{arith}
 use lib.ListN.{length, take, drop, set, getD, length-append, take-append-drop}
 use lib.Seq.{length-take-le, take-at, drop-at, drop-drop, set-split, set-at, take-suc}
-use Rattle.result.specs.Placed.{placedAt, Placed}
+use Rattle.base.specs.Writing.{placedAt, Placed}
 
 -- no text changes nothing
 pub placed-none : (at : ℕ) (l : List ℕ) → Placed at [] l l at

@@ -1,4 +1,4 @@
--- Bytes or numbers written into a lent list: a text into a buffer, figures into a list of results.
+-- Bytes or numbers written into a lent list: a text into a buffer, figures into a list of results. 01: Answering a book
 use Prim.Native.Nat.{ℕ, _+_}
 use mathlib.Core.Path.{_≡_}
 use mathlib.Core.List.{List, _++_}
@@ -12,3 +12,7 @@ placedAt at text before = take at before ++ text ++ drop (at + length text) befo
 pub record Placed (at : ℕ) (text before after : List ℕ) (end : ℕ) : Type 0 where
   pub ends : end ≡ at + length text
   pub holds : after ≡ placedAt at text before
+
+-- "written from the front and nothing behind them"
+abbrev pub overwrite : List ℕ → List ℕ → List ℕ
+overwrite answers before = answers ++ drop (length answers) before
