@@ -5,6 +5,7 @@ use mathlib.Core.List.{List, [], _∷_}
 use lib.Dec.{eqb}
 use lib.ListN.{getD}
 use Rattle.base.specs.Choice.{if_then_else_}
+-- passed on to `deal`, which names it from here
 pub use Rattle.tables.specs.Classes.{retail}
 
 -- a row for each class: sovereign; bank; corporate and other entity. In a row: steps 1 to 6, unrated

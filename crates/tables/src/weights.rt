@@ -4,6 +4,7 @@ ghost use Prim.Native.Nat.{_≤_};
 ghost use Rattle.tables.specs.Weights.{tableWeight, providerWeight, counterpartyWeight};
 use crate::classes::RETAIL;
 
+// The class `RETAIL`, under the name that `deal` has for it.
 pub const RETAIL_CLASS: u64 = RETAIL;
 
 const RETAIL_WEIGHT: u64 = 75;
