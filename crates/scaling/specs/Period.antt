@@ -2,7 +2,7 @@
 use Prim.Native.Nat.{ℕ, _+_, _-_}
 use lib.Dec.{eqb}
 use Rattle.base.specs.Choice.{if_then_else_}
-use Rattle.tables.specs.Kinds.{repoStyle, otherCapitalMarket, securedLending}
+use Rattle.tables.specs.Kinds.{repoStyle, otherCapitalMarket}
 
 -- "kinds 1, 2, 3 have minimum 5, 10, 20 business days". CRE22.61
 unfoldable pub minimumPeriod : ℕ → ℕ

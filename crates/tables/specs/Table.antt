@@ -3,6 +3,8 @@
 use Prim.Native.Nat.{ℕ, _≤_}
 use mathlib.Core.Path.{_≡_}
 use mathlib.Core.Bool.{Bool, true}
+use Rattle.tables.specs.Classes.{sovereign, otherEntity}
+use Rattle.tables.specs.Goods.{cash, gold}
 use Rattle.tables.specs.Eligibility
 use Rattle.tables.specs.Haircuts
 use Rattle.tables.specs.Weights
@@ -29,11 +31,11 @@ table2019 = record {
 
 -- a type of goods
 abbrev pub Goods : ℕ → Type 0
-Goods goods = (1 ≤ goods) × (goods ≤ 9)
+Goods goods = (cash ≤ goods) × (goods ≤ gold)
 
 -- a provider's class
 abbrev pub Provider : ℕ → Type 0
-Provider class = (1 ≤ class) × (class ≤ 3)
+Provider class = (sovereign ≤ class) × (class ≤ otherEntity)
 
 -- a new step no worse than the old, both of them rated
 abbrev pub NoWorseStep : ℕ → ℕ → Type 0
