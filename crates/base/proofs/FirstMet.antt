@@ -6,14 +6,9 @@ use mathlib.Core.List.{List, [], _∷_}
 use lib.Dec.{eqb}
 use borrow.Author.Tests.{eqb-true, eq-eqb}
 use Rattle.base.specs.Choice.{if_then_else_}
-use Rattle.base.specs.FirstMet.{Test, _when_, firstOr, firstMet}
+use Rattle.base.specs.FirstMet.{Test, _when_, firstOr, firstMet, NoneMet, Here, FirstIs, ExactFor, Exact}
 use Rattle.base.proofs.Choice.{never, either, if-true, if-false}
 use Rattle.base.proofs.Every.{both}
-
--- no test is met
-abbrev pub NoneMet : {A : Type 0} → List (Test A) → Type 0
-NoneMet [] = Unit {0}
-NoneMet ((n when met) ∷ ts) = (met ≡ false) × NoneMet ts
 
 -- whatever a test gives has this property
 abbrev pub EachGives : {A : Type 0} → (A → Type 0) → List (Test A) → Type 0
@@ -23,16 +18,6 @@ EachGives P ((given when met) ∷ ts) = P given × EachGives P ts
 pub gives-more : {A : Type 0} {P Q : A → Type 0} → ((a : A) → P a → Q a) → (ts : List (Test A)) → EachGives P ts → EachGives Q ts
 gives-more f [] h = tt
 gives-more f ((given when met) ∷ ts) h = (f given (h .0), gives-more f ts (h .1))
-
--- a test is met, where it is the one asked for; else it is not, and what is asked of the later ones holds
-abbrev Here : Bool → Bool → Type 0 → Type 0
-Here true met later = met ≡ true
-Here false met later = (met ≡ false) × later
-
--- the test with this number is met, and none before it
-abbrev pub FirstIs : ℕ → List (Test ℕ) → Type 0
-FirstIs k [] = ⊥
-FirstIs k ((n when met) ∷ ts) = Here (eqb k n) met (FirstIs k ts)
 
 -- no test has this number
 abbrev absent : ℕ → List (Test ℕ) → Bool
@@ -114,16 +99,6 @@ unfolding firstOr if_then_else_
 none-exactly [] d e = tt
 none-exactly ((n when true) ∷ ts) d e = absurd (never (eq-eqb n 0 e) (unequal (eqb n 0) (both (not (eqb n 0)) _ d .0)))
 none-exactly ((n when false) ∷ ts) d e = (refl, none-exactly ts (both (absent n ts) _ (both (not (eqb n 0)) _ d .1) .1) e)
-
--- n is the number that the tests give: one other than 0 exactly if its test is met and none before it, 0 exactly if none is met
-abbrev pub ExactFor : ℕ → List (Test ℕ) → Type 0
-ExactFor n ts =
-    ((k : ℕ) → eqb k 0 ≡ false → (n ≡ k → FirstIs k ts) × (FirstIs k ts → n ≡ k))
-    × (n ≡ 0 → NoneMet ts)
-    × (NoneMet ts → n ≡ 0)
-
-abbrev pub Exact : List (Test ℕ) → Type 0
-Exact ts = ExactFor (firstMet ts) ts
 
 pub exact : (ts : List (Test ℕ)) → distinct ts ≡ true → Exact ts
 exact ts d = (λ k z. (first-exactly k ts z d, first-is k ts), none-exactly ts d, none-met ts)

@@ -13,6 +13,6 @@ pub record Placed (at : ℕ) (text before after : List ℕ) (end : ℕ) : Type 0
   pub ends : end ≡ at + length text
   pub holds : after ≡ placedAt at text before
 
--- "written from the front and nothing behind them"
+-- "written from the front and nothing behind them", in a list that has room
 abbrev pub overwrite : List ℕ → List ℕ → List ℕ
-overwrite answers before = answers ++ drop (length answers) before
+overwrite written before = written ++ drop (length written) before

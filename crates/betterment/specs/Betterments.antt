@@ -27,12 +27,16 @@ pub data OneOf (place : ℕ) : List ℕ → Type 0 where
 -- of an item under a deal in this currency: "a higher amount, residual term or original term of an item; .. a smaller step, old and new
 -- both 1 to 6, of an item ..; an item's currency made the deal's" (or it is so already); "an item's condition from 0 to 1"
 pub data BetterItem {A : Type 0} (numbers : A → List ℕ) (read : List ℕ → A) (places : Places) (currency : ℕ) : A → A → Type 0 where
+  -- a higher amount, residual term or original term
   higher : {x : A} {place : ℕ} → OneOf place (places .higher) → (new : ℕ) → getD (numbers x) place 0 < new →
       BetterItem numbers read places currency x (changed numbers read place new x)
+  -- a smaller step, both rated
   smaller-step : {x : A} {place : ℕ} → OneOf place (places .steps) → (new : ℕ) → SmallerStep (getD (numbers x) place 0) new →
       BetterItem numbers read places currency x (changed numbers read place new x)
+  -- the deal's currency
   deal-currency : {x : A} {place : ℕ} → OneOf place (places .currencies) →
       BetterItem numbers read places currency x (changed numbers read place currency x)
+  -- a condition now met
   now-met : {x : A} {place : ℕ} → OneOf place (places .conditions) → getD (numbers x) place 0 ≡ 0 →
       BetterItem numbers read places currency x (changed numbers read place 1 x)
 
@@ -74,7 +78,7 @@ pub data Better : View → View → Type 0 where
 -- item on a full list included; the deal then stays as it was and the next one follows. Each meets the deal that the one before it left"
 pub data Betterments : Deal → Deal → Type 0 where
   no-more : {d : Deal} → Betterments d d
-  -- "unchanged is said of its fields and items, not of how a record holds them"
+  -- no betterment: the same deal, its record held otherwise. "unchanged is said of its fields and items, not of how a record holds them"
   held-otherwise : {d d′ e : Deal} → viewOf d ≡ viewOf d′ → accepted d′ ≡ true → Betterments d′ e → Betterments d e
   made : {d d′ e : Deal} → Better (viewOf d) (viewOf d′) → accepted d′ ≡ true → Betterments d′ e → Betterments d e
   refused : {d e : Deal} (proposed : View) → Better (viewOf d) proposed → acceptedView proposed ≡ false → Betterments d e → Betterments d e

@@ -9,7 +9,8 @@ use lib.Dec.{eqb}
 use lib.ListN.{length, take}
 use Rattle.base.specs.All.{allPass}
 use Rattle.base.proofs.Choice.{if-true, if-false, either, never}
-use Rattle.base.proofs.FirstMet.{NoneMet, FirstIs, first-is, none-met, none-exactly}
+use Rattle.base.proofs.FirstMet.{first-is, none-met, none-exactly}
+use Rattle.base.specs.FirstMet.{NoneMet, FirstIs}
 use Rattle.text.specs.Text.{sameBytes, firstLine, linesOf}
 use Rattle.text.proofs.Equal.{same-equal}
 use Rattle.text.proofs.Lines.{lines-first, no-lines}

@@ -40,7 +40,7 @@ opening-not-40 (CollateralLine c) = refl
 opening-not-40 (GuaranteeLine g) = refl
 opening-not-40 Malformed = refl
 
-opening-allowed : (line : Line) → eqb (openingRefusal line) 0 ≡ true → recordAllowed (openedBy line) ≡ true
+pub opening-allowed : (line : Line) → eqb (openingRefusal line) 0 ≡ true → recordAllowed (openedBy line) ≡ true
 unfolding openingRefusal openedBy
 opening-allowed (DealLine t) e = accepted-allowed _ (new-accepted t (eqb-true (termsRefusal t) 0 e))
 opening-allowed (CollateralLine c) e = absurd (never e refl)

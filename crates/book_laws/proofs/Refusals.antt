@@ -2,7 +2,8 @@
 use Prim.Native.Nat.{ℕ}
 use mathlib.Core.Path.{refl}
 use mathlib.Core.List.{List}
-use Rattle.base.proofs.FirstMet.{Exact, exact}
+use Rattle.base.proofs.FirstMet.{exact}
+use Rattle.base.specs.FirstMet.{Exact}
 use Rattle.book.specs.Book.{bookTests}
 
 -- where its own test is met and none before it

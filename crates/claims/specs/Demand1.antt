@@ -6,54 +6,86 @@
 --   adding an item     `deal::deal::Deal::add_collateral`, `add_guarantee`  addCollateralRefusal, withCollateral and the like
 --   reporting a deal   `relief::report::Report::of`                         reportRefusal, reportOf
 --   answering a book   `book::answer::answer_book`                          bookReply, resultsAfter
--- What follows is proved of those definitions, for every input whatever.
+-- What follows is proved of those definitions, for every input whatever. Calls on numbers (crate hadlephoga) go through the same operations:
+-- their contracts add 13 and 11 for lists of another length, and determine every number of every list.
 use Prim.Native.Nat.{ℕ}
 use mathlib.Core.Path.{_≡_}
 use mathlib.Core.Bool.{Bool, true, false, _||_}
 use mathlib.Core.List.{List, [], _∷_}
 use lib.Dec.{eqb}
-use lib.ListN.{length}
-use Rattle.base.specs.FirstMet.{Test, firstMet}
-use Rattle.base.proofs.FirstMet.{Exact}
+use lib.ListN.{getD, length}
+use Rattle.base.specs.FirstMet.{Exact}
+use Rattle.base.specs.Writing.{overwrite}
 use Rattle.deal.specs.Adding.{addCollateralRefusal, addCollateralTests, addGuaranteeRefusal, addGuaranteeTests, withCollateral, withGuarantee}
+use Rattle.deal.specs.Answers.{answerNumber}
+use Rattle.deal.specs.Collateral.{appendCollateral}
+use Rattle.deal.specs.Guarantees.{appendGuarantee}
 use Rattle.deal.specs.Opening.{openedDeal}
-use Rattle.deal.specs.Records.{accepted}
+use Rattle.deal.specs.Records.{accepted, dealOf}
 use Rattle.deal.specs.Terms.{termsRefusal, termsTests}
 use Rattle.deal.specs.declared.terms.Terms.{Terms}
 use Rattle.deal.specs.declared.collateral.Collateral.{Collateral}
 use Rattle.deal.specs.declared.guarantee.Guarantee.{Guarantee}
 use Rattle.deal.specs.declared.deal.Deal.{Deal}
 use Rattle.relief.specs.Report.{refusedReport, reportOf, reportRefusal}
-use Rattle.book.specs.Answers.{dealAnswer}
-use Rattle.book.specs.Book.{bookRefusal, bookTests, resultsAfter}
+use Rattle.book.specs.Answers.{answersFrom, dealAnswer}
+use Rattle.book.specs.Book.{bookRefusal, bookReply, bookTests, dealsOf, resultsAfter}
 use Rattle.book.specs.Deals.{DealLines}
 use Rattle.book_laws.specs.Parts.{AnsweredBy}
 
-abbrev isOneOf : List ℕ → ℕ → Bool
-isOneOf [] n = false
-isOneOf (m ∷ ms) n = eqb n m || isOneOf ms n
+abbrev pub isAmong : List ℕ → ℕ → Bool
+isAmong [] n = false
+isAmong (m ∷ ms) n = eqb n m || isAmong ms n
 
-abbrev pub OneOf : List ℕ → ℕ → Type 0
-OneOf ms n = isOneOf ms n ≡ true
+abbrev pub Among : List ℕ → ℕ → Type 0
+Among ms n = isAmong ms n ≡ true
+
+-- how a line of a deal may be refused: 11, or by the operation
+abbrev pub lineRefusals : List ℕ
+lineRefusals = 11 ∷ 6 ∷ 1 ∷ 2 ∷ 3 ∷ 4 ∷ 5 ∷ 7 ∷ 8 ∷ []
 
 pub record Demand1 : Type 0 where
+  -- A FIGURE OR A REFUSAL BY NUMBER
+
   -- opening answers 0 or one of its refusals
-  pub opening : (t : Terms) → OneOf (0 ∷ 1 ∷ 2 ∷ 3 ∷ 4 ∷ 5 ∷ []) (termsRefusal t)
+  pub opening : (t : Terms) → Among (0 ∷ 1 ∷ 2 ∷ 3 ∷ 4 ∷ 5 ∷ []) (termsRefusal t)
   -- and so does adding
-  pub adding-collateral : (d : Deal) (c : Collateral) → OneOf (0 ∷ 40 ∷ 6 ∷ 1 ∷ 2 ∷ 3 ∷ 4 ∷ 5 ∷ 7 ∷ 8 ∷ []) (addCollateralRefusal d c)
-  pub adding-guarantee : (d : Deal) (g : Guarantee) → OneOf (0 ∷ 40 ∷ 6 ∷ 1 ∷ 2 ∷ 3 ∷ 4 ∷ 5 ∷ 7 ∷ 8 ∷ []) (addGuaranteeRefusal d g)
-  -- reporting answers 0 or 40
-  pub reporting : (d : Deal) → OneOf (0 ∷ 40 ∷ []) (reportRefusal d)
+  pub adding-collateral : (d : Deal) (c : Collateral) → Among (0 ∷ 40 ∷ 6 ∷ 1 ∷ 2 ∷ 3 ∷ 4 ∷ 5 ∷ 7 ∷ 8 ∷ []) (addCollateralRefusal d c)
+  pub adding-guarantee : (d : Deal) (g : Guarantee) → Among (0 ∷ 40 ∷ 6 ∷ 1 ∷ 2 ∷ 3 ∷ 4 ∷ 5 ∷ 7 ∷ 8 ∷ []) (addGuaranteeRefusal d g)
+  -- reporting answers 0 or 40, and its report says which
+  pub reporting : (d : Deal) → Among (0 ∷ 40 ∷ []) (reportRefusal d)
+  pub report-says : (d : Deal) → answerNumber (reportOf d .answer) ≡ reportRefusal d
   -- a book as a whole is answered by 0 or one of its refusals ..
-  pub book : (text : List ℕ) (places : ℕ) → OneOf (0 ∷ 10 ∷ 9 ∷ 12 ∷ 13 ∷ []) (bookRefusal text places)
-  -- .. and each deal in it by a refused line, or by the figures of an accepted deal's report
-  pub deal-in-book : (deal : DealLines) → AnsweredBy (dealAnswer deal)
+  pub book : (text : List ℕ) (places : ℕ) → Among (0 ∷ 10 ∷ 9 ∷ 12 ∷ 13 ∷ []) (bookRefusal text places)
+  -- .. and each deal in it by 0 or the refusal of a line, never by 40 ..
+  pub deal-in-book : (deal : DealLines) → Among (0 ∷ lineRefusals) (getD (dealAnswer deal) 0 0)
+  -- .. with the refused line's number, or the figures of an accepted deal's report
+  pub figures-in-book : (deal : DealLines) → AnsweredBy (dealAnswer deal)
+
+  -- EXACTLY WHERE IT IS DUE
+
   -- a refusal is given exactly where its own test is met and none before it, and 0 exactly where none is met: nothing is refused that
   -- should be taken
   pub opening-due : (t : Terms) → Exact (termsTests t)
   pub collateral-due : (d : Deal) (c : Collateral) → Exact (addCollateralTests d c)
   pub guarantee-due : (d : Deal) (g : Guarantee) → Exact (addGuaranteeTests d g)
+  pub reporting-due : (d : Deal) → (reportRefusal d ≡ 40 → accepted d ≡ false) × (accepted d ≡ false → reportRefusal d ≡ 40)
   pub book-due : (text : List ℕ) (places : ℕ) → Exact (bookTests text places)
+
+  -- WHAT IS NOT REFUSED
+
+  -- gives an accepted deal, and adding changes only the next place and that list's count
+  pub opened : (t : Terms) → termsRefusal t ≡ 0 → accepted (openedDeal t) ≡ true
+  pub collateral-added : (d : Deal) (c : Collateral) → addCollateralRefusal d c ≡ 0 →
+      (accepted (withCollateral d c) ≡ true) × (withCollateral d c ≡ dealOf (d .terms) (appendCollateral (d .collateral) c) (d .guarantees))
+  pub guarantee-added : (d : Deal) (g : Guarantee) → addGuaranteeRefusal d g ≡ 0 →
+      (accepted (withGuarantee d g) ≡ true) × (withGuarantee d g ≡ dealOf (d .terms) (d .collateral) (appendGuarantee (d .guarantees) g))
+  -- four numbers a deal are written from the front of the list, and nothing behind them
+  pub list-written : (text list : List ℕ) → bookRefusal text (length list) ≡ 0 → resultsAfter text list ≡ overwrite (answersFrom 1 (dealsOf text)) list
+  pub deals-counted : (text : List ℕ) (places : ℕ) → bookRefusal text places ≡ 0 → bookReply text places .deals ≡ length (dealsOf text)
+
+  -- WHAT IS REFUSED LEAVES THINGS AS THEY WERE
+
   -- a refused opening gives no deal: what stands beside it is none
   pub no-deal : (t : Terms) → eqb (termsRefusal t) 0 ≡ false → accepted (openedDeal t) ≡ false
   -- a refused addition leaves the deal as it was

@@ -12,7 +12,7 @@ use mathlib.Core.List.{List}
 use lib.ListN.{getD}
 use Rattle.base.specs.Least.{Least}
 use Rattle.base.specs.Sum.{sumOf}
-use Rattle.base.proofs.FirstMet.{ExactFor}
+use Rattle.base.specs.FirstMet.{ExactFor}
 use Rattle.scaling.specs.Scaling.{IsScaled, scaled}
 use Rattle.valuation.specs.Exposure.{riskWeightedAmount, volatilityAdjustedExposure}
 use Rattle.valuation.specs.Protection.{keepShare, volatilityAdjustedValue}

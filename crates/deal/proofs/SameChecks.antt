@@ -6,13 +6,13 @@ use Rattle.deal.specs.Checks.{fieldTests}
 use Rattle.deal.specs.declared.checks.FieldChecks.{FieldChecks}
 
 abbrev checks : Bool → Bool → Bool → Bool → Bool → Bool → Bool → FieldChecks
-checks amount codes steps currency ranges terms conditions = record {
+checks amount codes steps currency ranges maturity conditions = record {
   amount = amount;
   codes = codes;
   steps = steps;
   currency = currency;
   ranges = ranges;
-  terms = terms;
+  maturity = maturity;
   conditions = conditions;
 }
 

@@ -27,7 +27,7 @@ addCollateralRefusal d c = firstMet (addCollateralTests d c)
 unfoldable pub addGuaranteeRefusal : Deal → Guarantee → ℕ
 addGuaranteeRefusal d g = firstMet (addGuaranteeTests d g)
 
--- the deal after it
+-- the deal after it: "A refused line leaves the deal as it was before it"
 unfoldable pub withCollateral : Deal → Collateral → Deal
 withCollateral d c = unlessRefused (addCollateralRefusal d c) (dealOf (d .terms) (appendCollateral (d .collateral) c) (d .guarantees)) d
 

@@ -5,7 +5,7 @@ use mathlib.Core.List.{List, [], _∷_}
 use Rattle.base.specs.FirstMet.{Test, _when_}
 use Rattle.deal.specs.declared.checks.FieldChecks.{FieldChecks}
 
--- "1 amount over the limit; 2 unknown class, kind or type; 3 step above 6, or not 0 where 0 is due; 4 currency; 5 interval, term or issue
+-- of fields, where each entry is true if they are as they should be: "1 amount over the limit; 2 unknown class, kind or type; 3 step above 6, or not 0 where 0 is due; 4 currency; 5 interval, term or issue
 -- life outside its range"; of an item besides "7 residual term above original; 8 a condition neither 0 nor 1"
 abbrev pub fieldTests : FieldChecks → List (Test ℕ)
 fieldTests c =
@@ -14,6 +14,6 @@ fieldTests c =
     ∷ 3 when not (c .steps)
     ∷ 4 when not (c .currency)
     ∷ 5 when not (c .ranges)
-    ∷ 7 when not (c .terms)
+    ∷ 7 when not (c .maturity)
     ∷ 8 when not (c .conditions)
     ∷ []

@@ -23,7 +23,7 @@ collateralChecks c = record {
   steps = assetStepAllowed (c .asset);
   currency = currencyAllowed (c .currency);
   ranges = daysAllowed (c .residual) && daysAllowed (c .original) && lifeAllowed (c .asset);
-  terms = leb (c .residual) (c .original);
+  maturity = leb (c .residual) (c .original);
   conditions = conditionAllowed (c .lawful) && conditionAllowed (c .unrelated) && conditionAllowed (c .«not_in_rating») && conditionAllowed (c .listed);
 }
 
@@ -43,6 +43,7 @@ collateralListAllowed l = listAllowed collateralRefusal (l .items) (l .count)
 abbrev pub emptyCollateral : CollateralList
 emptyCollateral = record { items = replicate listLimit zeroCollateral; count = 0 }
 
+-- "adding changes only the next place and that list's count"
 abbrev pub appendCollateral : CollateralList → Collateral → CollateralList
 appendCollateral l c = record { items = itemsWith (l .items) (l .count) c; count = l .count + 1 }
 
@@ -53,6 +54,6 @@ collateralListTests l c = listTests collateralTests (l .count) c
 unfoldable pub collateralListRefusal : CollateralList → Collateral → ℕ
 collateralListRefusal l c = firstMet (collateralListTests l c)
 
--- the list after it
+-- the list after it: "A refused line leaves the deal as it was before it"
 unfoldable pub collateralListWith : CollateralList → Collateral → CollateralList
 collateralListWith l c = unlessRefused (collateralListRefusal l c) (appendCollateral l c) l

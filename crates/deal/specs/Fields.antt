@@ -1,5 +1,5 @@
--- A deal's terms and its items from the numbers that are sent, in the order of 01: What a deal holds, and back again. The two ways are
--- inverse to each other (proofs/BothWays)
+-- A deal's terms and its items from the numbers that are sent, in the order of 01: What a deal holds, and back again. Of lists of
+-- so many numbers the two ways are inverse to each other (proofs/BothWays)
 use Prim.Native.Nat.{ℕ}
 use mathlib.Core.List.{List, [], _∷_}
 use lib.ListN.{getD}

@@ -22,7 +22,7 @@ guaranteeChecks g = record {
   steps = partyStepAllowed (g .provider);
   currency = currencyAllowed (g .currency);
   ranges = daysAllowed (g .residual) && daysAllowed (g .original);
-  terms = leb (g .residual) (g .original);
+  maturity = leb (g .residual) (g .original);
   conditions = conditionAllowed (g .lawful) && conditionAllowed (g .direct) && conditionAllowed (g .«not_in_rating»);
 }
 
@@ -42,6 +42,7 @@ guaranteeListAllowed l = listAllowed guaranteeRefusal (l .items) (l .count)
 abbrev pub emptyGuarantees : GuaranteeList
 emptyGuarantees = record { items = replicate listLimit zeroGuarantee; count = 0 }
 
+-- "adding changes only the next place and that list's count"
 abbrev pub appendGuarantee : GuaranteeList → Guarantee → GuaranteeList
 appendGuarantee l g = record { items = itemsWith (l .items) (l .count) g; count = l .count + 1 }
 
@@ -52,6 +53,6 @@ guaranteeListTests l g = listTests guaranteeTests (l .count) g
 unfoldable pub guaranteeListRefusal : GuaranteeList → Guarantee → ℕ
 guaranteeListRefusal l g = firstMet (guaranteeListTests l g)
 
--- the list after it
+-- the list after it: "A refused line leaves the deal as it was before it"
 unfoldable pub guaranteeListWith : GuaranteeList → Guarantee → GuaranteeList
 guaranteeListWith l g = unlessRefused (guaranteeListRefusal l g) (appendGuarantee l g) l

@@ -24,10 +24,10 @@ listAllowed refusal items count = leb count listLimit && allPass (counted items 
 abbrev pub listTests : {A : Type 0} → (A → List (Test ℕ)) → ℕ → A → List (Test ℕ)
 listTests tests count x = 6 when leb listLimit count ∷ tests x
 
--- "adding changes only the next place and that list's count". Places are numbered from 0, and a list has sixteen of them
+-- the next place, behind the counted ones. Places are numbered from 0, and a list has sixteen of them
 abbrev pub itemsWith : {A : Type 0} → List A → ℕ → A → List A
 itemsWith items count x = set items count x
 
--- "A refused line leaves the deal as it was before it"
+-- what stands after an operation, and what beside a refusal
 abbrev pub unlessRefused : {A : Type 0} → ℕ → A → A → A
 unlessRefused refusal after before = if eqb refusal 0 then after else before

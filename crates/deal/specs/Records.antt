@@ -24,7 +24,7 @@ dealOf t cs gs = record { terms = t; collateral = cs; guarantees = gs }
 abbrev pub withoutProtection : Terms → Deal
 withoutProtection t = dealOf t emptyCollateral emptyGuarantees
 
--- a deal with these items, at most sixteen in each list; nothing in the places past them
+-- a deal with these items, at most sixteen in each list; zeros in the places past them
 abbrev pub dealWith : Terms → List Collateral → List Guarantee → Deal
 dealWith t cs gs = record {
   terms = t;

@@ -24,7 +24,7 @@ termsChecks t = record {
   steps = partyStepAllowed (t .counterparty) && assetStepAllowed (t .lent);
   currency = currencyAllowed (t .currency);
   ranges = intervalAllowed (t .interval) && daysAllowed (t .residual) && lifeAllowed (t .lent);
-  terms = true;
+  maturity = true;
   conditions = true;
 }
 

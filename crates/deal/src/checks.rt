@@ -14,8 +14,8 @@ pub struct FieldChecks {
     pub currency: bool,
     // Interval, terms and issue life.
     pub ranges: bool,
-    // The residual term against the original one.
-    pub terms: bool,
+    // The residual term is not above the original one.
+    pub maturity: bool,
     pub conditions: bool,
 }
 
@@ -39,7 +39,7 @@ impl FieldChecks {
         if !self.ranges {
             return Answer::OutsideRange;
         }
-        if !self.terms {
+        if !self.maturity {
             return Answer::ResidualAboveOriginal;
         }
         if !self.conditions {

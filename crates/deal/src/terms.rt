@@ -88,7 +88,7 @@ impl Terms {
             currency: currency_allowed(self.currency),
             ranges: self.days_in_range(),
             // Asked of items alone.
-            terms: true,
+            maturity: true,
             conditions: true,
         };
         checks.answer()

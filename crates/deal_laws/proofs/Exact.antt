@@ -6,7 +6,8 @@ use mathlib.Core.Bool.{true, false, not, _&&_}
 use lib.Dec.{leb, eqb}
 use lib.ListN.{length, getD}
 use borrow.Author.Tests.{eq-eqb, eqb-true, le-leb, leb-true}
-use Rattle.base.proofs.FirstMet.{Exact, exact}
+use Rattle.base.proofs.FirstMet.{exact}
+use Rattle.base.specs.FirstMet.{Exact}
 use Rattle.base.proofs.All.{all-at, all-from}
 use Rattle.base.proofs.Every.{both}
 use Rattle.base.proofs.Tests.{and-true, not-true, told-not-false}

@@ -17,7 +17,7 @@ use Rattle.relief.specs.declared.outcome.Outcome.the-variants.{LeftOut, Valued}
 use Rattle.relief.specs.declared.report.Report.{Report}
 use Rattle.relief.proofs.Computed.{computed}
 use Rattle.hadlephoga.specs.Operations.{addingCollateralRefusal, addingGuaranteeRefusal, addingRefusal, listOpened, numbersWithCollateral, numbersWithGuarantee, openedNumbers, openingRefusalOf, openingTests}
-use Rattle.hadlephoga.specs.Records.{dealIn, dealNumbers, inOrder, pieces, recordLength}
+use Rattle.hadlephoga.specs.Records.{dealIn, dealNumbers, inOrder, slices, recordLength}
 use Rattle.hadlephoga.specs.Reports.{listAfter, reportIn, reportNumbers, reportingRefusal}
 
 -- "D 1000000 3 0 978 3 1 1800 1 0 0", "C 400000 2 1 720 978 1800 1800 1 1 1 0", "G 200000 1 1 978 1800 1800 1 1 1"
@@ -31,7 +31,7 @@ example =
 example-reported :
     (reportingRefusal example 84 ≡ 0)
     × (listAfter example (replicate 84 7) ≡ 611314 ∷ 388686 ∷ 0 ∷ (replicate 30 0 ++ 200000 ∷ 0 ∷ 200000 ∷ (replicate 45 0 ++ 411314 ∷ 411314 ∷ 7 ∷ [])))
-unfolding computed reportingRefusal listAfter reportNumbers reportIn dealIn pieces inOrder answerNumber if_then_else_
+unfolding computed reportingRefusal listAfter reportNumbers reportIn dealIn slices inOrder answerNumber if_then_else_
 example-reported = (refl, refl)
 
 -- numbers that are no record, and a list with one place too few
@@ -50,7 +50,7 @@ abbrev promise : List ℕ
 promise = 200000 ∷ 1 ∷ 1 ∷ 978 ∷ 1800 ∷ 1800 ∷ 1 ∷ 1 ∷ 1 ∷ []
 
 unfoldable built : List ℕ
-unfolding computed openingRefusalOf openingTests openedNumbers listOpened addingRefusal numbersWithCollateral numbersWithGuarantee addCollateralTests addGuaranteeTests addCollateralRefusal addGuaranteeRefusal collateralListTests guaranteeListTests withCollateral withGuarantee dealIn dealNumbers pieces inOrder
+unfolding computed openingRefusalOf openingTests openedNumbers listOpened addingRefusal numbersWithCollateral numbersWithGuarantee addCollateralTests addGuaranteeTests addCollateralRefusal addGuaranteeRefusal collateralListTests guaranteeListTests withCollateral withGuarantee dealIn dealNumbers slices inOrder
 built = numbersWithGuarantee (numbersWithCollateral (openedNumbers opening) bond) promise
 
 example-built : (built ≡ example) × (addingCollateralRefusal example bond ≡ 0) × (addingGuaranteeRefusal example promise ≡ 0)

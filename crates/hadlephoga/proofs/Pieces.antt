@@ -8,16 +8,16 @@ use lib.ListN.{length, take, drop, getD, set, replicate, length-drop, length-rep
 use lib.Seq.{drop-at, drop-drop, length-take-le, take-all, take-at}
 use Rattle.base.proofs.Places.{fill-more}
 use Rattle.deal.specs.Lists.{listLimit}
-use Rattle.hadlephoga.specs.Records.{inOrder, pieces}
+use Rattle.hadlephoga.specs.Records.{inOrder, slices}
 
-pub length-pieces : (width k : ℕ) (ns : List ℕ) → length (pieces width k ns) ≡ k
-unfolding pieces
-length-pieces width zero ns = refl
-length-pieces width (suc k) ns = ap suc (length-pieces width k (drop width ns))
+pub length-slices : (width k : ℕ) (ns : List ℕ) → length (slices width k ns) ≡ k
+unfolding slices
+length-slices width zero ns = refl
+length-slices width (suc k) ns = ap suc (length-slices width k (drop width ns))
 
 -- the piece in a place
-piece-at : (width k : ℕ) (ns : List ℕ) (i : ℕ) → i < k → getD (pieces width k ns) i [] ≡ take width (drop (i * width) ns)
-unfolding pieces
+piece-at : (width k : ℕ) (ns : List ℕ) (i : ℕ) → i < k → getD (slices width k ns) i [] ≡ take width (drop (i * width) ns)
+unfolding slices
 piece-at width zero ns i h = absurd (not-suc-le-zero h)
 piece-at width (suc k) ns zero h = let e : 0 ≡ 0 * width = omega arith in ap (λ (n : ℕ). take width (drop n ns)) e
 piece-at width (suc k) ns (suc i) h =
@@ -35,31 +35,31 @@ part-wide width ns at h =
     omega (arith, length-take-le (at + width - at) (drop at ns) (omega (arith, e, length-drop at ns)), e)
 
 module _ {A : Type 0} (f : List ℕ → A) (none : A) (width : ℕ) (ns : List ℕ) where
-  -- places filled from the first i pieces
+  -- places filled from the first i slices
   abbrev pub Filled : List A → ℕ → Type 0
-  Filled items i = items ≡ map f (take i (pieces width listLimit ns)) ++ drop i (replicate listLimit none)
+  Filled items i = items ≡ map f (take i (slices width listLimit ns)) ++ drop i (replicate listLimit none)
 
   pub place-filled : (items : List A) (i : ℕ) (x : A) → i < listLimit → Filled items i → x ≡ f (part width ns (i * width)) → Filled (set items i x) (i + 1)
   place-filled items i x h filled e =
       let n : i * width + width - i * width ≡ width = omega arith in
-      let here : x ≡ f (getD (pieces width listLimit ns) i []) = e ∙ ap f (rw n (sym (piece-at width listLimit ns i h))) in
-      rw (filled, here) (fill-more f [] i (pieces width listLimit ns) (replicate listLimit none) (omega (arith, h, length-pieces width listLimit ns)) (omega (arith, h, length-replicate listLimit none)))
+      let here : x ≡ f (getD (slices width listLimit ns) i []) = e ∙ ap f (rw n (sym (piece-at width listLimit ns i h))) in
+      rw (filled, here) (fill-more f [] i (slices width listLimit ns) (replicate listLimit none) (omega (arith, h, length-slices width listLimit ns)) (omega (arith, h, length-replicate listLimit none)))
 
-  pub all-filled : (items : List A) (i : ℕ) → i ≡ listLimit → Filled items i → items ≡ map f (pieces width listLimit ns)
-  all-filled items i e filled = filled ∙ rw (e, take-all listLimit (pieces width listLimit ns) (omega (arith, length-pieces width listLimit ns))) (append-nil _)
+  pub all-filled : (items : List A) (i : ℕ) → i ≡ listLimit → Filled items i → items ≡ map f (slices width listLimit ns)
+  all-filled items i e filled = filled ∙ rw (e, take-all listLimit (slices width listLimit ns) (omega (arith, length-slices width listLimit ns))) (append-nil _)
 
--- what is written for each element, one behind the other, and read from the pieces
+-- what is written for each element, one behind the other, and read from the slices
 module _ {A : Type 0} (write : A → List ℕ) (read : List ℕ → A) (width : ℕ) where
   pub read-back : ((x : A) → length (write x) ≡ width) → ((x : A) → read (write x) ≡ x) → (xs : List A) →
-      map read (pieces width (length xs) (inOrder write xs)) ≡ xs
-  unfolding pieces inOrder
+      map read (slices width (length xs) (inOrder write xs)) ≡ xs
+  unfolding slices inOrder
   read-back wide back [] = refl
   read-back wide back (x ∷ xs) =
       rw (take-at (write x) (inOrder write xs) width (wide x), drop-at (write x) (inOrder write xs) width (wide x), back x, read-back wide back xs)
 
   pub written-back : ((ns : List ℕ) → length ns ≡ width → write (read ns) ≡ ns) → (k : ℕ) (ns : List ℕ) → length ns ≡ k * width →
-      inOrder write (map read (pieces width k ns)) ≡ ns
-  unfolding pieces inOrder
+      inOrder write (map read (slices width k ns)) ≡ ns
+  unfolding slices inOrder
   written-back forth zero [] e = refl
   written-back forth zero (n ∷ ns) e = absurd (omega (arith, e))
   written-back forth (suc k) ns e =

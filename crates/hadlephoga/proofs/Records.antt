@@ -13,9 +13,9 @@ use Rattle.deal.specs.declared.collateral.Collateral.{Collateral}
 use Rattle.deal.specs.declared.guarantee.Guarantee.{Guarantee}
 use Rattle.deal.specs.declared.deal.Deal.{Deal}
 use Rattle.deal.proofs.BothWays.{collateral-back, collateral-forth, guarantee-back, guarantee-forth, terms-back, terms-forth}
-use Rattle.hadlephoga.specs.Records.{collateralCountAt, collateralLength, dealIn, dealNumbers, firstCollateral, firstGuarantee, guaranteeCountAt, guaranteesLength, inOrder, pieces, recordLength}
+use Rattle.hadlephoga.specs.Records.{collateralCountAt, collateralLength, dealIn, dealNumbers, firstCollateral, firstGuarantee, guaranteeCountAt, guaranteesLength, inOrder, slices, recordLength}
 use Rattle.hadlephoga.proofs.Numbers.{length-in-order}
-use Rattle.hadlephoga.proofs.Pieces.{length-pieces, read-back, written-back}
+use Rattle.hadlephoga.proofs.Pieces.{length-slices, read-back, written-back}
 
 -- where the five parts stand
 module _ (ts cs gs : List ℕ) (c g : ℕ) (wide : length ts ≡ termsWidth) (long : length cs ≡ collateralLength) where
@@ -67,7 +67,7 @@ pub record HasPlaces (d : Deal) : Type 0 where
 
 pub in-places : (ns : List ℕ) → HasPlaces (dealIn ns)
 unfolding dealIn
-in-places ns = record { pledged = rw length-map (length-pieces collateralWidth listLimit _); guaranteed = rw length-map (length-pieces guaranteeWidth listLimit _) }
+in-places ns = record { pledged = rw length-map (length-slices collateralWidth listLimit _); guaranteed = rw length-map (length-slices guaranteeWidth listLimit _) }
 
 module _ (d : Deal) (p : HasPlaces d) where
   pub length-numbers : length (dealNumbers d) ≡ recordLength
@@ -90,13 +90,13 @@ module _ (d : Deal) (p : HasPlaces d) where
       let c = d .collateral .count in
       let g = d .guarantees .count in
       let long : length cs ≡ collateralLength = length-places collateralFields collateralWidth (λ x. refl) (d .collateral .items) (p .pledged) in
-      let pledged : map collateralIn (pieces collateralWidth listLimit cs) ≡ d .collateral .items = rw (p .pledged) at (read-back collateralFields collateralIn collateralWidth (λ x. refl) collateral-back (d .collateral .items)) in
-      let guaranteed : map guaranteeIn (pieces guaranteeWidth listLimit gs) ≡ d .guarantees .items = rw (p .guaranteed) at (read-back guaranteeFields guaranteeIn guaranteeWidth (λ x. refl) guarantee-back (d .guarantees .items)) in
+      let pledged : map collateralIn (slices collateralWidth listLimit cs) ≡ d .collateral .items = rw (p .pledged) at (read-back collateralFields collateralIn collateralWidth (λ x. refl) collateral-back (d .collateral .items)) in
+      let guaranteed : map guaranteeIn (slices guaranteeWidth listLimit gs) ≡ d .guarantees .items = rw (p .guaranteed) at (read-back guaranteeFields guaranteeIn guaranteeWidth (λ x. refl) guarantee-back (d .guarantees .items)) in
       same-deal
       (ap termsIn (terms-part ts cs gs c g refl long) ∙ terms-back (d .terms))
-      (ap (λ ns. map collateralIn (pieces collateralWidth listLimit ns)) (collateral-part ts cs gs c g refl long) ∙ pledged)
+      (ap (λ ns. map collateralIn (slices collateralWidth listLimit ns)) (collateral-part ts cs gs c g refl long) ∙ pledged)
       (collateral-count ts cs gs c g refl long)
-      (ap (λ ns. map guaranteeIn (pieces guaranteeWidth listLimit ns)) (guarantees-part ts cs gs c g refl long) ∙ guaranteed)
+      (ap (λ ns. map guaranteeIn (slices guaranteeWidth listLimit ns)) (guarantees-part ts cs gs c g refl long) ∙ guaranteed)
       (guarantee-count ts cs gs c g refl long)
 
 pub deal-forth : (ns : List ℕ) → length ns ≡ recordLength → dealNumbers (dealIn ns) ≡ ns

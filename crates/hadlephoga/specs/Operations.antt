@@ -1,6 +1,7 @@
 -- Opening a deal and adding an item for callers in other languages, on numbers. 01: Opening a deal, Adding an item. Of lists of numbers
 -- the paper says nothing; it says of a book's line that a "wrong number of fields" is 11, which "comes before the operation's own refusals",
--- and of a lent list that is too short, 13
+-- and of a lent list that is too short, 13. In order: opening 13, 11, 1 to 5, into a list that may be longer than a record; adding 11, 40, 6, 1
+-- to 5, 7, 8, to a list that is a record
 use Prim.Native.Nat.{ℕ}
 use mathlib.Core.Bool.{not}
 use mathlib.Core.List.{List, _∷_}
@@ -29,7 +30,8 @@ unfoldable pub openedNumbers : List ℕ → List ℕ
 openedNumbers terms =
     if eqb (firstMet (openingTests terms)) 0 then dealNumbers (withoutProtection (termsIn terms)) else replicate recordLength 0
 
--- the lent list afterwards: the record's numbers from the front and nothing behind them; untouched with 13
+-- the lent list afterwards: untouched with 13; otherwise the record that opening gives, from the front and nothing behind it. So another
+-- refusal leaves zeros, on which every further call is 40, and not an older deal that a caller might take for the new one
 unfoldable pub listOpened : List ℕ → List ℕ → List ℕ
 listOpened terms before = if ltb (length before) recordLength then before else overwrite (openedNumbers terms) before
 

@@ -7,10 +7,10 @@ use Rattle.deal.specs.Fields.{collateralFields, collateralIn, collateralWidth, 
 use Rattle.deal.specs.Lists.{listLimit}
 use Rattle.deal.specs.declared.deal.Deal.{Deal}
 
--- so many pieces of this width, one behind the other
-unfoldable pub pieces : ℕ → ℕ → List ℕ → List (List ℕ)
-pieces width zero numbers = []
-pieces width (suc k) numbers = take width numbers ∷ pieces width k (drop width numbers)
+-- so many slices of this width, one behind the other
+unfoldable pub slices : ℕ → ℕ → List ℕ → List (List ℕ)
+slices width zero numbers = []
+slices width (suc k) numbers = take width numbers ∷ slices width k (drop width numbers)
 
 -- for each of a list's elements its numbers, one behind the other
 unfoldable pub inOrder : {A : Type 0} → (A → List ℕ) → List A → List ℕ
@@ -45,11 +45,11 @@ unfoldable pub dealIn : List ℕ → Deal
 dealIn numbers = record {
   terms = termsIn (take termsWidth numbers);
   collateral = record {
-    items = map collateralIn (pieces collateralWidth listLimit (take collateralLength (drop firstCollateral numbers)));
+    items = map collateralIn (slices collateralWidth listLimit (take collateralLength (drop firstCollateral numbers)));
     count = getD numbers collateralCountAt 0;
   };
   guarantees = record {
-    items = map guaranteeIn (pieces guaranteeWidth listLimit (drop firstGuarantee numbers));
+    items = map guaranteeIn (slices guaranteeWidth listLimit (drop firstGuarantee numbers));
     count = getD numbers guaranteeCountAt 0;
   };
 }

@@ -23,21 +23,21 @@ abbrev pub guaranteeNumbers : GuaranteeReport → List ℕ
 guaranteeNumbers g = outcomeValue (g .outcome) ∷ outcomeGround (g .outcome) ∷ g .portion ∷ []
 
 -- how many numbers those are, for one item and for a list's sixteen places
-abbrev pub outcomeWidth : ℕ
-outcomeWidth = 2
+abbrev pub collateralReportWidth : ℕ
+collateralReportWidth = 2
 
-abbrev pub coverWidth : ℕ
-coverWidth = outcomeWidth + 1
+abbrev pub guaranteeReportWidth : ℕ
+guaranteeReportWidth = collateralReportWidth + 1
 
-abbrev pub outcomesLength : ℕ
-outcomesLength = listLimit * outcomeWidth
+abbrev pub collateralReportsLength : ℕ
+collateralReportsLength = listLimit * collateralReportWidth
 
-abbrev pub coversLength : ℕ
-coversLength = listLimit * coverWidth
+abbrev pub guaranteeReportsLength : ℕ
+guaranteeReportsLength = listLimit * guaranteeReportWidth
 
 -- E*; the places of collateral; those of guarantees; the rest; the weighted amount
 abbrev pub reportLength : ℕ
-reportLength = 1 + outcomesLength + coversLength + 1 + 1
+reportLength = 1 + collateralReportsLength + guaranteeReportsLength + 1 + 1
 
 unfoldable pub reportNumbers : Report → List ℕ
 reportNumbers r =

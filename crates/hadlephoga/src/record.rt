@@ -4,7 +4,7 @@ ghost use mathlib.Core.List.{map};
 ghost use lib.ListN.{length};
 ghost use Rattle.deal.specs.Fields.{collateralIn, collateralWidth, guaranteeIn, guaranteeWidth};
 ghost use Rattle.deal.specs.Lists.{listLimit};
-ghost use Rattle.hadlephoga.specs.Records.{collateralLength, dealIn, guaranteesLength, pieces, recordLength};
+ghost use Rattle.hadlephoga.specs.Records.{collateralLength, dealIn, guaranteesLength, slices, recordLength};
 ghost use Rattle.hadlephoga.specs.Reports.{reportIn};
 use deal::collateral::Collateral;
 use deal::collateral::CollateralList;
@@ -37,7 +37,7 @@ pub const RECORD_LENGTH: usize = FIRST_GUARANTEE + GUARANTEES_LENGTH;
 
 fn collateral_items(numbers: &[u64]) -> [Collateral; Deal::COLLATERAL_LIMIT]
     requires { ⌜ length (now numbers) ≡ collateralLength ⌝ }
-    ensures { λ r. ⌜ r ≡ map collateralIn (pieces collateralWidth listLimit (now (numbers .entry))) ⌝ }
+    ensures { λ r. ⌜ r ≡ map collateralIn (slices collateralWidth listLimit (now (numbers .entry))) ⌝ }
 {
     let mut items = [Collateral::ZERO; Deal::COLLATERAL_LIMIT];
     let mut i: usize = 0;
@@ -52,7 +52,7 @@ fn collateral_items(numbers: &[u64]) -> [Collateral; Deal::COLLATERAL_LIMIT]
 
 fn guarantee_items(numbers: &[u64]) -> [Guarantee; Deal::GUARANTEE_LIMIT]
     requires { ⌜ length (now numbers) ≡ guaranteesLength ⌝ }
-    ensures { λ r. ⌜ r ≡ map guaranteeIn (pieces guaranteeWidth listLimit (now (numbers .entry))) ⌝ }
+    ensures { λ r. ⌜ r ≡ map guaranteeIn (slices guaranteeWidth listLimit (now (numbers .entry))) ⌝ }
 {
     let mut items = [Guarantee::ZERO; Deal::GUARANTEE_LIMIT];
     let mut i: usize = 0;

@@ -6,7 +6,7 @@ ghost use lib.ListN.{length};
 ghost use Rattle.base.specs.Writing.{overwrite, Placed};
 ghost use Rattle.relief.specs.Outcomes.{outcomeGround, outcomeValue};
 ghost use Rattle.hadlephoga.specs.Records.{inOrder};
-ghost use Rattle.hadlephoga.specs.Reports.{collateralNumbers, coverWidth, coversLength, guaranteeNumbers, outcomeWidth, outcomesLength, reportLength, reportNumbers};
+ghost use Rattle.hadlephoga.specs.Reports.{collateralNumbers, guaranteeReportWidth, guaranteeReportsLength, guaranteeNumbers, collateralReportWidth, collateralReportsLength, reportLength, reportNumbers};
 use crate::lent::put_number;
 use deal::deal::Deal;
 use relief::collateral::CollateralReport;
@@ -15,20 +15,20 @@ use relief::outcome::Outcome;
 use relief::report::Report;
 
 // The numbers of an item's outcome, and of a guarantee's with its portion.
-const OUTCOME_WIDTH: usize = 2;
+const COLLATERAL_REPORT_WIDTH: usize = 2;
 
-const COVER_WIDTH: usize = OUTCOME_WIDTH + 1;
+const GUARANTEE_REPORT_WIDTH: usize = COLLATERAL_REPORT_WIDTH + 1;
 
 // The exposure, the places of both lists, the rest and the weighted amount.
 pub const REPORT_LENGTH: usize = 1
-    + Deal::COLLATERAL_LIMIT * OUTCOME_WIDTH
-    + Deal::GUARANTEE_LIMIT * COVER_WIDTH
+    + Deal::COLLATERAL_LIMIT * COLLATERAL_REPORT_WIDTH
+    + Deal::GUARANTEE_LIMIT * GUARANTEE_REPORT_WIDTH
     + 1
     + 1;
 
 // The value and the ground's number.
 fn put_outcome(list: &mut [u64], at: usize, outcome: Outcome) -> usize
-    requires { ⌜ at + outcomeWidth ≤ length (now list) ⌝ }
+    requires { ⌜ at + collateralReportWidth ≤ length (now list) ⌝ }
     ensures { λ r. ⌜ Placed at (outcomeValue outcome ∷ outcomeGround outcome ∷ []) (now (list .entry)) (now (list .exit)) r ⌝ }
 {
     let next = put_number(list, at, outcome.value());
@@ -40,7 +40,7 @@ fn put_collateral(
     at: usize,
     reports: [CollateralReport; Deal::COLLATERAL_LIMIT],
 ) -> usize
-    requires { ⌜ at + outcomesLength ≤ length (now list) ⌝ }
+    requires { ⌜ at + collateralReportsLength ≤ length (now list) ⌝ }
     ensures { λ r. ⌜ Placed at (inOrder collateralNumbers reports) (now (list .entry)) (now (list .exit)) r ⌝ }
 {
     let mut place = at;
@@ -56,7 +56,7 @@ fn put_collateral(
 
 // The outcome and the portion.
 fn put_guarantee(list: &mut [u64], at: usize, report: GuaranteeReport) -> usize
-    requires { ⌜ at + coverWidth ≤ length (now list) ⌝ }
+    requires { ⌜ at + guaranteeReportWidth ≤ length (now list) ⌝ }
     ensures { λ r. ⌜ Placed at (guaranteeNumbers report) (now (list .entry)) (now (list .exit)) r ⌝ }
 {
     let outcome = report.outcome;
@@ -69,7 +69,7 @@ fn put_guarantees(
     at: usize,
     reports: [GuaranteeReport; Deal::GUARANTEE_LIMIT],
 ) -> usize
-    requires { ⌜ at + coversLength ≤ length (now list) ⌝ }
+    requires { ⌜ at + guaranteeReportsLength ≤ length (now list) ⌝ }
     ensures { λ r. ⌜ Placed at (inOrder guaranteeNumbers reports) (now (list .entry)) (now (list .exit)) r ⌝ }
 {
     let mut place = at;

@@ -19,7 +19,7 @@ use Rattle.relief.specs.Outcomes.{outcomeGround, outcomeValue}
 use Rattle.relief.specs.Collateral.{collateralGround, collateralValue, collateralOutcome}
 use Rattle.relief.specs.Guarantees.{guaranteeGround, guaranteeValue, guaranteeOutcome}
 use Rattle.relief.specs.Report.{noCollateral, noGuarantee, collateralReports, guaranteeReports, fullReport, refusedReport, reportUnder, reportOf}
-use Rattle.relief.specs.ByNumber.{placeOf, placeWith, collateralPlaces, guaranteePlaces}
+use Rattle.relief.specs.ByNumber.{placeOf, placeWith, collateralByNumber, guaranteesByNumber}
 use Rattle.relief.proofs.Outcomes.{value-for}
 use Rattle.relief.proofs.Recognition.{collateral-number, guarantee-number}
 use Rattle.relief.proofs.Reports.{portion-each, shares}
@@ -46,8 +46,8 @@ module _ (table : Table) (v : View) where
 
 -- EVERY PLACE OF A REPORT IN THE PAPER'S NUMBERS
 module _ (d : Deal) where
-  pub collateral-by-number : map (λ p. placeOf (p .outcome)) (reportOf d .collateral) ≡ collateralPlaces d
-  unfolding reportUnder fullReport collateralPlaces placeWith outcomeGround outcomeValue if_then_else_
+  pub collateral-by-number : map (λ p. placeOf (p .outcome)) (reportOf d .collateral) ≡ collateralByNumber d
+  unfolding reportUnder fullReport collateralByNumber placeWith outcomeGround outcomeValue if_then_else_
   collateral-by-number = go (accepted d)
     where
       go : (b : Bool) → map (λ p. placeOf (p .outcome)) ((if b then fullReport (tableFor (d .terms)) (viewOf d) else refusedReport) .collateral) ≡
@@ -55,8 +55,8 @@ module _ (d : Deal) where
       go true = map-places (λ p. placeOf (p .outcome)) listLimit noCollateral (collateralReports (tableFor (d .terms)) (viewOf d)) ∙ ap (inPlaces listLimit (placeWith 0 0)) (collateral-counted (tableFor (d .terms)) (viewOf d))
       go false = refl
 
-  pub guarantees-by-number : map (λ p. placeOf (p .outcome)) (reportOf d .guarantees) ≡ guaranteePlaces d
-  unfolding reportUnder fullReport guaranteePlaces placeWith outcomeGround outcomeValue if_then_else_
+  pub guarantees-by-number : map (λ p. placeOf (p .outcome)) (reportOf d .guarantees) ≡ guaranteesByNumber d
+  unfolding reportUnder fullReport guaranteesByNumber placeWith outcomeGround outcomeValue if_then_else_
   guarantees-by-number = go (accepted d)
     where
       go : (b : Bool) → map (λ p. placeOf (p .outcome)) ((if b then fullReport (tableFor (d .terms)) (viewOf d) else refusedReport) .guarantees) ≡

@@ -8,9 +8,9 @@ use native.Mathlib.Omega.{arith}
 use lib.Dec.{eqb}
 use borrow.Author.Tests.{eqb-true}
 use Rattle.base.specs.Choice.{if_then_else_}
-use Rattle.base.specs.FirstMet.{Test, firstMet}
+use Rattle.base.specs.FirstMet.{Test, firstMet, NoneMet}
 use Rattle.base.proofs.Choice.{either, never}
-use Rattle.base.proofs.FirstMet.{NoneMet, EachGives, none-met, first-holds, gives-more}
+use Rattle.base.proofs.FirstMet.{EachGives, none-met, first-holds, gives-more}
 use Rattle.relief.specs.declared.outcome.Outcome.the-variants.{Valued, LeftOut}
 use Rattle.relief.specs.Grounds.{groundNumber, groundWith}
 use Rattle.relief.specs.Outcomes.{outcomeValue, outcomeGround, outcomeFor}

@@ -28,15 +28,15 @@ unfoldable pub placeWith : ℕ → ℕ → Place
 placeWith ground value = record { ground = ground; value = if eqb ground 0 then value else 0 }
 
 -- every place of a deal's collateral: 0 and 0 past the count, and everywhere beside a 40
-unfoldable pub collateralPlaces : Deal → List Place
-collateralPlaces d =
+unfoldable pub collateralByNumber : Deal → List Place
+collateralByNumber d =
     let table = tableFor (d .terms) in
     let items = map (λ c. placeWith (collateralGround table (d .terms) c) (collateralValue table (d .terms) c)) (viewOf d .collateral) in
     inPlaces listLimit (placeWith 0 0) (if accepted d then items else [])
 
 -- and of its guarantees
-unfoldable pub guaranteePlaces : Deal → List Place
-guaranteePlaces d =
+unfoldable pub guaranteesByNumber : Deal → List Place
+guaranteesByNumber d =
     let table = tableFor (d .terms) in
     let items = map (λ g. placeWith (guaranteeGround table (d .terms) g) (guaranteeValue (d .terms) g)) (viewOf d .guarantees) in
     inPlaces listLimit (placeWith 0 0) (if accepted d then items else [])

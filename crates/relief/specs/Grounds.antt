@@ -25,7 +25,7 @@ groundNumber UnratedEntity = 28
 -- "provider's weight not below the counterparty's"
 groundNumber WeightNotBelow = 29
 
--- the ground with a number from 21 to 29. No other number is that of a ground
+-- the ground with a number from 21 to 29, and it is asked for no other (`outcomeFor`)
 unfoldable pub groundWith : ℕ → Ground
 groundWith number =
     getD

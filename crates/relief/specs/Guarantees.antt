@@ -27,7 +27,7 @@ unfoldable pub guaranteeValue : Terms → Guarantee → ℕ
 guaranteeValue t g =
     recognised (g .amount) (scaledCurrencyHaircut (g .currency) (t .currency) (guaranteePeriod (t .interval))) (g .residual) (t .residual)
 
--- "21; 27 not direct; 23; 28 other entity unrated; 25; 26; 29 provider's weight not below the counterparty's"
+-- "21; 27 not direct; 23; 28 other entity unrated; 25; 26; 29 provider's weight not below the counterparty's". Direct is CRE22.84, CRE22.85
 unfoldable pub guaranteeGrounds : Table → Terms → Guarantee → List (Test ℕ)
 guaranteeGrounds table t g =
     21 when eqb (g .lawful) 0

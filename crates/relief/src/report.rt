@@ -6,7 +6,7 @@ ghost use Rattle.deal.specs.Answers.{answerNumber};
 ghost use Rattle.deal.specs.Records.{accepted as acceptedOf, dealOf};
 ghost use Rattle.deal.specs.Editions.{tableFor};
 ghost use Rattle.deal.specs.Views.{viewOf};
-ghost use Rattle.relief.specs.ByNumber.{collateralPlaces, guaranteePlaces, placeOf};
+ghost use Rattle.relief.specs.ByNumber.{collateralByNumber, guaranteesByNumber, placeOf};
 ghost use Rattle.relief.specs.Report.{fullReport, refusedReport, reportOf, reportRefusal};
 ghost use Rattle.relief.specs.TimeFactors.{TimeFactorsOf};
 use crate::collateral::CollateralReport;
@@ -103,7 +103,7 @@ impl Report {
     // Reporting a deal. Its one refusal is a record that is not accepted.
     pub fn of(deal: Deal) -> Report
         ensures { λ r. ⌜ (answerNumber (r .answer) ≡ reportRefusal deal) × (r ≡ reportOf deal) ⌝ }
-        ensures { λ r. ⌜ (map (λ p. placeOf (p .outcome)) (r .collateral) ≡ collateralPlaces deal) × (map (λ p. placeOf (p .outcome)) (r .guarantees) ≡ guaranteePlaces deal) ⌝ }
+        ensures { λ r. ⌜ (map (λ p. placeOf (p .outcome)) (r .collateral) ≡ collateralByNumber deal) × (map (λ p. placeOf (p .outcome)) (r .guarantees) ≡ guaranteesByNumber deal) ⌝ }
     {
         if !deal.accepted() {
             return refused();

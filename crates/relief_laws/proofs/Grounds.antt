@@ -2,7 +2,8 @@
 use mathlib.Core.Path.{_≡_, refl, sym, subst}
 use mathlib.Core.Bool.{true, false, not}
 use lib.Dec.{eqb}
-use Rattle.base.proofs.FirstMet.{ExactFor, exact}
+use Rattle.base.proofs.FirstMet.{exact}
+use Rattle.base.specs.FirstMet.{ExactFor}
 use Rattle.tables.specs.Table.{Table}
 use Rattle.deal.specs.declared.terms.Terms.{Terms}
 use Rattle.deal.specs.declared.collateral.Collateral.{Collateral}

@@ -8,7 +8,7 @@ use native.Mathlib.Omega.{arith}
 use native.Mathlib.Nat.{le-trans}
 use native.Mathlib.Decide.{ℕ-discrete}
 use borrow.Author.Tests.{leb-false}
-use Rattle.base.proofs.FirstMet.{NoneMet}
+use Rattle.base.specs.FirstMet.{NoneMet}
 use Rattle.base.proofs.Tests.{not-false, told-not-true}
 use Rattle.tables.specs.Table.{Table, TableLaws, Goods, Provider}
 use Rattle.scaling.specs.Period.{holdingPeriod}

@@ -8,9 +8,8 @@ use native.Mathlib.Omega.{arith}
 use native.Mathlib.Nat.{le-trans, mul-le-mul, mul-zero}
 use lib.Dec.{ltb}
 use borrow.Author.Tests.{ltb-true, ltb-false, lt-ltb, le-ltb}
-use Rattle.base.specs.FirstMet.{Test, firstMet}
+use Rattle.base.specs.FirstMet.{Test, firstMet, NoneMet}
 use Rattle.base.proofs.Choice.{either, if-true, if-false}
-use Rattle.base.proofs.FirstMet.{NoneMet}
 use Rattle.base.proofs.Rounding.{div-mono}
 use Rattle.valuation.specs.Protection.{keepShare, volatilityAdjustedValue, mismatched, maturityAdjusted, recognised}
 use Rattle.valuation.proofs.Values.{mismatched-le}

@@ -107,8 +107,11 @@ abbrev portion : ℕ → ℕ
 portion place = getD (reportOf covered .guarantees) place noGuarantee .portion
 
 -- a retail deal with nothing pledged
+abbrev retailDeal : ℕ → Terms
+retailDeal amount = termsIn (amount ∷ retail ∷ 0 ∷ home ∷ securedLending ∷ 1 ∷ 1800 ∷ cash ∷ 0 ∷ 0 ∷ [])
+
 abbrev retailAmount : ℕ → ℕ
-retailAmount amount = reportOf (dealWith (termsIn (amount ∷ retail ∷ 0 ∷ home ∷ securedLending ∷ 1 ∷ 1800 ∷ cash ∷ 0 ∷ 0 ∷ [])) [] []) .rwa
+retailAmount amount = reportOf (dealWith (retailDeal amount) [] []) .rwa
 
 abbrev pub starred : List Figure
 starred =
@@ -140,6 +143,7 @@ starred =
     ∷ is (adjustedExposureOf (tableFor repo) repo) 125
     ∷ is (left 10) 100
     ∷ is (left 125) 0
+    ∷ is (answerNumber (reportOf (dealWith repo (pledge 125 cash home 1800 1800 ∷ []) []) .answer)) 0
     -- "E* 100; guarantee of 80 at weight 20 added before one of 60 at 0: portions 40 and 60, weighted amount 8"
     ∷ is (reportOf covered .exposure) 100
     ∷ is (portion 0) 40
@@ -148,4 +152,5 @@ starred =
     -- "Retail, amount 1: weighted amount 1. Amount 0: 0"
     ∷ is (retailAmount 1) 1
     ∷ is (retailAmount 0) 0
+    ∷ is (answerNumber (reportOf (dealWith (retailDeal 0) [] []) .answer)) 0
     ∷ []

@@ -9,7 +9,8 @@ use Rattle.tables.specs.Goods.{cash, sovereignDebt, securitisation, main
 use Rattle.tables.specs.Eligibility.{eligible}
 
 -- the table: a row for step 1, one for steps 2 and 3, one for step 4; in a row, for each band of life: sovereign / other /
--- securitisation. "Type 2 at step 4: 150000"; the other two are not eligible there, and have the figure of such goods lent
+-- securitisation. "Type 2 at step 4: 150000"; the other two are not eligible there, and no answer
+-- depends on their cells
 abbrev pub debtHaircuts : List (List (List ℕ))
 debtHaircuts =
     ((5000 ∷ 10000 ∷ 20000 ∷ []) ∷ (20000 ∷ 40000 ∷ 80000 ∷ []) ∷ (40000 ∷ 80000 ∷ 160000 ∷ []) ∷ [])

@@ -6,26 +6,26 @@ use lib.ListN.{length}
 use Rattle.base.proofs.Arrays.{unmapped}
 use Rattle.base.proofs.Tests.{tests}
 use Rattle.deal.specs.Lists.{listLimit}
-use Rattle.hadlephoga.specs.Reports.{collateralNumbers, coverWidth, coversLength, guaranteeNumbers, outcomeWidth, outcomesLength, reportNumbers}
+use Rattle.hadlephoga.specs.Reports.{collateralNumbers, guaranteeReportWidth, guaranteeReportsLength, guaranteeNumbers, collateralReportWidth, collateralReportsLength, reportNumbers}
 use Rattle.hadlephoga.proofs.Numbers.{five-parts, length-in-order}
 use Rattle.hadlephoga.proofs.report.put_report.Statement.{statement}
 use Rattle.hadlephoga.proofs.report.put_report.Tie as tie
 
 -- the place behind each part
-behind-collateral : (p : tie.After-put-collateral) → (p .put-collateral .result ≡ 1 + outcomesLength) × (length (p .put-collateral .last .0) ≡ length (p .before .before .before .before .before .before .before .before .args .list .now))
+behind-collateral : (p : tie.After-put-collateral) → (p .put-collateral .result ≡ 1 + collateralReportsLength) × (length (p .put-collateral .last .0) ≡ length (p .before .before .before .before .before .before .before .before .args .list .now))
 behind-collateral p =
     let n = p .before .before .before .before .before in
     let s = p .before .before .before .before .before .before .before .before in
     let long : length (s .args .report .collateral) ≡ listLimit = search (unmapped, s .good) in
-    let e = length-in-order collateralNumbers outcomeWidth (λ x. refl) (s .args .report .collateral) in
+    let e = length-in-order collateralNumbers collateralReportWidth (λ x. refl) (s .args .report .collateral) in
     (omega (arith, p .put-collateral .ensures .ends, n .put-number .ensures .ends, e, long), p .put-collateral .kept .0 ∙ n .put-number .kept .0)
 
-behind-guarantees : (g : tie.After-put-guarantees) → (g .put-guarantees .result ≡ 1 + outcomesLength + coversLength) × (length (g .put-guarantees .last .0) ≡ length (g .before .before .before .before .before .before .before .before .before .before .before .before .before .args .list .now))
+behind-guarantees : (g : tie.After-put-guarantees) → (g .put-guarantees .result ≡ 1 + collateralReportsLength + guaranteeReportsLength) × (length (g .put-guarantees .last .0) ≡ length (g .before .before .before .before .before .before .before .before .before .before .before .before .before .args .list .now))
 behind-guarantees g =
     let p = g .before .before .before .before .before in
     let s = p .before .before .before .before .before .before .before .before in
     let long : length (s .args .report .guarantees) ≡ listLimit = search (unmapped, s .good) in
-    let e = length-in-order guaranteeNumbers coverWidth (λ x. refl) (s .args .report .guarantees) in
+    let e = length-in-order guaranteeNumbers guaranteeReportWidth (λ x. refl) (s .args .report .guarantees) in
     (omega (arith, g .put-guarantees .ensures .ends, behind-collateral p .0, e, long), g .put-guarantees .kept .0 ∙ behind-collateral p .1)
 
 put-number-requires : tie.Need-put-number-requires

@@ -10,7 +10,7 @@ use Rattle.deal.specs.Answers.{answerNumber}
 use Rattle.deal.specs.Records.{accepted}
 use Rattle.deal.specs.declared.deal.Deal.{Deal}
 use Rattle.deal.proofs.Deals.{accepted-allowed, allowed-parts}
-use Rattle.relief.specs.ByNumber.{placeOf, collateralPlaces, guaranteePlaces}
+use Rattle.relief.specs.ByNumber.{placeOf, collateralByNumber, guaranteesByNumber}
 use Rattle.relief.specs.Report.{fullReport, reportOf, reportRefusal}
 use Rattle.relief.specs.declared.report.Report.{Report}
 use Rattle.relief.proofs.ByNumber.{collateral-by-number, guarantees-by-number}
@@ -26,7 +26,7 @@ refused-requires c κs = tt
 
 -- a report that is the definition's says its items by number
 by-number : (d : Deal) (r : Report) → r ≡ reportOf d →
-    (map (λ p. placeOf (p .outcome)) (r .collateral) ≡ collateralPlaces d) × (map (λ p. placeOf (p .outcome)) (r .guarantees) ≡ guaranteePlaces d)
+    (map (λ p. placeOf (p .outcome)) (r .collateral) ≡ collateralByNumber d) × (map (λ p. placeOf (p .outcome)) (r .guarantees) ≡ guaranteesByNumber d)
 by-number d r e =
     (ap (λ x. map (λ p. placeOf (p .outcome)) (x .collateral)) e ∙ collateral-by-number d, ap (λ x. map (λ p. placeOf (p .outcome)) (x .guarantees)) e ∙ guarantees-by-number d)
 
