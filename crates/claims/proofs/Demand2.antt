@@ -1,4 +1,20 @@
 -- Demand 2 is met. Assumes nothing.
+use Prim.Native.Nat.{ℕ, _+_, _*_, _-_, _/_, _≤_, _<_, min}
+use mathlib.Core.Path.{_≡_, sym, ap, _∙_}
+use mathlib.Core.Bool.{true}
+use native.Mathlib.Nat.{div-add-mod', mod-lt}
+use native.Mathlib.Omega.{arith}
+use Rattle.tables.proofs.Listed.{eligible-as-listed}
+use Rattle.valuation.specs.Exposure.{riskWeightedAmount}
+use Rattle.valuation.specs.Protection.{keepShare, mismatched}
+use Rattle.cover.specs.Cover.{weightedSum}
+use Rattle.deal.specs.Records.{accepted}
+use Rattle.deal.specs.Views.{viewOf}
+use Rattle.deal.specs.declared.deal.Deal.{Deal}
+use Rattle.relief.specs.Exposure.{adjustedExposureOf, collateralTotal, exposureAfter, piecesOf, riskWeightedAmountOf}
+use Rattle.relief.specs.Weights.{counterpartyWeightOf}
+use Rattle.relief.proofs.ByNumber.{collateral-by-number, guarantees-by-number}
+use Rattle.relief.proofs.Reports.{exposure-of, report-accepted, rwa-of}
 use Rattle.scaling.proofs.Scaled.{scaled-is}
 use Rattle.cover_laws.proofs.Order.{in-rising-order}
 use Rattle.deal.specs.Editions.{tableFor}
@@ -10,8 +26,46 @@ use Rattle.relief_laws.proofs.Values.{adjusted-value-is, left-out-value}
 use Rattle.starred.proofs.Starred.{starred-right}
 use Rattle.claims.specs.Demand2.{Demand2}
 
+-- a quotient is rounded down
+floor : (x d : ℕ) → 0 < d → (x / d * d ≤ x) × (x < (x / d + 1) * d)
+floor x d h = omega (arith, div-add-mod' x d, mod-lt x h)
+
+mismatch-rounded : (value cover term : ℕ) → 90 < cover → cover < term →
+    let T = min term 1800 in
+    let t = min T cover in
+    (mismatched value cover term * (T - 90) ≤ value * (t - 90)) × (value * (t - 90) < (mismatched value cover term + 1) * (T - 90))
+unfolding mismatched
+mismatch-rounded value cover term h k = floor (value * (min (min term 1800) cover - 90)) (min term 1800 - 90) (omega arith)
+
+none-kept : (haircut : ℕ) → 1000000 ≤ haircut → keepShare haircut ≡ 0
+unfolding keepShare
+none-kept haircut h = omega arith
+
+exposure-made : (d : Deal) → accepted d ≡ true →
+    reportOf d .exposure
+    ≡ min (d .terms .amount) (adjustedExposureOf (tableFor (d .terms)) (d .terms) - collateralTotal (tableFor (d .terms)) (d .terms) (viewOf d .collateral))
+unfolding exposureAfter
+exposure-made d e = exposure-of (tableFor (d .terms)) d e
+
+amount-made : (d : Deal) → accepted d ≡ true →
+    reportOf d .rwa
+    ≡ riskWeightedAmount (weightedSum (counterpartyWeightOf (tableFor (d .terms)) (d .terms)) (reportOf d .exposure) (piecesOf (tableFor (d .terms)) (viewOf d)))
+unfolding riskWeightedAmountOf
+amount-made d e =
+    let table = tableFor (d .terms) in
+    rwa-of table d e
+    ∙ sym (ap (λ E. riskWeightedAmount (weightedSum (counterpartyWeightOf table (d .terms)) E (piecesOf table (viewOf d)))) (exposure-of table d e))
+
 pub demand-2 : Demand2
 demand-2 = record {
+  full = λ d e. report-accepted (tableFor (d .terms)) d e;
+  collateral-reported = collateral-by-number;
+  guarantees-reported = guarantees-by-number;
+  exposure = exposure-made;
+  weighted = amount-made;
+  keep-none = none-kept;
+  mismatch-down = mismatch-rounded;
+  eligibility = eligible-as-listed;
   figures = starred-right;
   scaling = scaled-is;
   value-down = adjusted-value-is;

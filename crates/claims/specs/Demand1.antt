@@ -61,7 +61,6 @@ pub record Demand1 : Type 0 where
   pub deal-in-book : (deal : DealLines) → Among (0 ∷ lineRefusals) (getD (dealAnswer deal) 0 0)
   -- .. with the refused line's number, or the figures of an accepted deal's report
   pub figures-in-book : (deal : DealLines) → AnsweredBy (dealAnswer deal)
-
   -- EXACTLY WHERE IT IS DUE
 
   -- a refusal is given exactly where its own test is met and none before it, and 0 exactly where none is met: nothing is refused that
@@ -71,7 +70,6 @@ pub record Demand1 : Type 0 where
   pub guarantee-due : (d : Deal) (g : Guarantee) → Exact (addGuaranteeTests d g)
   pub reporting-due : (d : Deal) → (reportRefusal d ≡ 40 → accepted d ≡ false) × (accepted d ≡ false → reportRefusal d ≡ 40)
   pub book-due : (text : List ℕ) (places : ℕ) → Exact (bookTests text places)
-
   -- WHAT IS NOT REFUSED
 
   -- gives an accepted deal, and adding changes only the next place and that list's count
@@ -83,7 +81,6 @@ pub record Demand1 : Type 0 where
   -- four numbers a deal are written from the front of the list, and nothing behind them
   pub list-written : (text list : List ℕ) → bookRefusal text (length list) ≡ 0 → resultsAfter text list ≡ overwrite (answersFrom 1 (dealsOf text)) list
   pub deals-counted : (text : List ℕ) (places : ℕ) → bookRefusal text places ≡ 0 → bookReply text places .deals ≡ length (dealsOf text)
-
   -- WHAT IS REFUSED LEAVES THINGS AS THEY WERE
 
   -- a refused opening gives no deal: what stands beside it is none

@@ -4,57 +4,95 @@
 --
 -- The contract of `relief::report::Report::of` says that the whole report is `reportOf`, every number of it; that of
 -- `book::answer::answer_book` says that a book's answers are made of those figures. docs/TRACE.md goes from each sentence of document 01
--- to its definition. What follows is proved of the definitions.
-use Prim.Native.Nat.{ℕ, _+_, _*_, _≤_, _<_}
+-- to its definition; the cells of the tables, the minimum holding periods and the like are read there and not proved. What follows is
+-- proved of the definitions.
+use Prim.Native.Nat.{ℕ, _+_, _*_, _-_, _≤_, _<_, min}
 use mathlib.Core.Path.{_≡_}
 use mathlib.Core.Logic.{_≢_}
-use mathlib.Core.List.{List}
+use mathlib.Core.Bool.{true, not}
+use mathlib.Core.List.{List, map}
 use lib.ListN.{getD}
 use Rattle.base.specs.Least.{Least}
 use Rattle.base.specs.Sum.{sumOf}
 use Rattle.base.specs.FirstMet.{ExactFor}
+use Rattle.tables.specs.Eligibility.{eligible, excluded}
+use Rattle.tables.specs.Table.{Goods}
 use Rattle.scaling.specs.Scaling.{IsScaled, scaled}
 use Rattle.valuation.specs.Exposure.{riskWeightedAmount, volatilityAdjustedExposure}
-use Rattle.valuation.specs.Protection.{keepShare, volatilityAdjustedValue}
-use Rattle.cover.specs.Cover.{covered}
+use Rattle.valuation.specs.Protection.{keepShare, mismatched, volatilityAdjustedValue}
+use Rattle.cover.specs.Cover.{covered, weightedSum}
 use Rattle.cover.specs.declared.protection.Protection.{Protection}
 use Rattle.cover_laws.specs.Sorted.{pass, sort}
 use Rattle.deal.specs.Editions.{tableFor}
+use Rattle.deal.specs.Records.{accepted}
+use Rattle.deal.specs.Views.{viewOf}
 use Rattle.deal.specs.declared.terms.Terms.{Terms}
 use Rattle.deal.specs.declared.collateral.Collateral.{Collateral}
 use Rattle.deal.specs.declared.guarantee.Guarantee.{Guarantee}
 use Rattle.deal.specs.declared.deal.Deal.{Deal}
+use Rattle.relief.specs.ByNumber.{collateralByNumber, guaranteesByNumber, placeOf}
 use Rattle.relief.specs.Collateral.{collateralGrounds, collateralOutcome}
+use Rattle.relief.specs.Exposure.{adjustedExposureOf, collateralTotal, piecesOf}
 use Rattle.relief.specs.Guarantees.{guaranteeGrounds, guaranteeOutcome}
 use Rattle.relief.specs.Outcomes.{outcomeGround, outcomeValue}
-use Rattle.relief.specs.Report.{noGuarantee, reportOf}
+use Rattle.relief.specs.Report.{fullReport, noGuarantee, reportOf}
+use Rattle.relief.specs.Weights.{counterpartyWeightOf}
 use Rattle.relief.specs.declared.outcome.Outcome.{Outcome}
 use Rattle.starred.specs.Figures.{AllRight, starred}
 
 pub record Demand2 : Type 0 where
+  -- THE REPORT
+
+  -- of an accepted deal is made of these parts, place by place; what follows is about them
+  pub full : (d : Deal) → accepted d ≡ true → reportOf d ≡ fullReport (tableFor (d .terms)) (viewOf d)
+  -- for each item either its value or its ground, by number, in every place of every report
+  pub collateral-reported : (d : Deal) → map (λ r. placeOf (r .outcome)) (reportOf d .collateral) ≡ collateralByNumber d
+  pub guarantees-reported : (d : Deal) → map (λ r. placeOf (r .outcome)) (reportOf d .guarantees) ≡ guaranteesByNumber d
+  -- E* is the exposure raised by the lent goods' haircut, less all collateral values, and never above the deal's amount
+  pub exposure : (d : Deal) → accepted d ≡ true →
+      reportOf d .exposure
+      ≡ min (d .terms .amount) (adjustedExposureOf (tableFor (d .terms)) (d .terms) - collateralTotal (tableFor (d .terms)) (d .terms) (viewOf d .collateral))
+  pub capped : (d : Deal) → reportOf d .exposure ≤ d .terms .amount
+  -- the risk-weighted amount is the sum of portion × weight, and of the rest × the counterparty's weight, divided by 100 once, rounded up
+  pub weighted : (d : Deal) → accepted d ≡ true →
+      reportOf d .rwa
+      ≡ riskWeightedAmount (weightedSum (counterpartyWeightOf (tableFor (d .terms)) (d .terms)) (reportOf d .exposure) (piecesOf (tableFor (d .terms)) (viewOf d)))
+  -- the portions and the uncovered rest make up E*
+  pub conserved : (d : Deal) → sumOf (λ r. r .portion) (reportOf d .guarantees) + reportOf d .uncovered ≡ reportOf d .exposure
+  -- FIGURES AND ROUNDING
+
   -- the figures that document 01 marks come out of the definitions
   pub figures : AllRight starred
   -- a scaled haircut is the least h with 10 × h × h at or above H × H × n
   pub scaling : (H n : ℕ) → IsScaled H n (scaled H n)
-  -- a value is rounded down, the exposure and the weighted amount up
+  -- haircuts that reach the whole leave nothing
+  pub keep-none : (haircut : ℕ) → 1000000 ≤ haircut → keepShare haircut ≡ 0
+  -- a value is rounded down, and down again under a maturity mismatch ..
   pub value-down : (amount haircut : ℕ) →
       (volatilityAdjustedValue amount haircut * 1000000 ≤ amount * keepShare haircut)
       × (amount * keepShare haircut < (volatilityAdjustedValue amount haircut + 1) * 1000000)
+  pub mismatch-down : (value cover term : ℕ) → 90 < cover → cover < term →
+      let T = min term 1800 in
+      let t = min T cover in
+      (mismatched value cover term * (T - 90) ≤ value * (t - 90)) × (value * (t - 90) < (mismatched value cover term + 1) * (T - 90))
+  -- .. the exposure and the weighted amount are the least that are enough
   pub exposure-up : (amount haircut : ℕ) → Least (λ m. amount * (1000000 + haircut) ≤ m * 1000000) (volatilityAdjustedExposure amount haircut)
   pub weighted-up : (sum : ℕ) → Least (λ m. sum ≤ m * 100) (riskWeightedAmount sum)
+  -- COVER
+
+  -- guarantees cover in rising order of weight, equal weights in order of adding: as a stable sort and one pass over it
+  pub rising-order : (E : ℕ) (pieces : List Protection) → sort (covered E pieces) ≡ pass E (sort pieces)
+  -- GROUNDS
+
   -- a ground is given exactly where it is due, the first that applies; none exactly where none applies
   pub collateral-ground : (t : Terms) (c : Collateral) →
       ExactFor (outcomeGround (collateralOutcome (tableFor t) t c)) (collateralGrounds (tableFor t) t c)
   pub guarantee-ground : (t : Terms) (g : Guarantee) →
       ExactFor (outcomeGround (guaranteeOutcome (tableFor t) t g)) (guaranteeGrounds (tableFor t) t g)
+  -- 24: goods are eligible by type and step exactly where the paper's list does not exclude them
+  pub eligibility : (goods step listed : ℕ) → Goods goods → step ≤ 6 → listed ≤ 1 → eligible goods step listed ≡ not (excluded goods step listed)
   -- what is left out has value 0 ..
   pub left-out : (o : Outcome) → outcomeGround o ≢ 0 → outcomeValue o ≡ 0
   -- .. and covers 0, in every place of every report
   pub covers-none : (d : Deal) (place : ℕ) →
       let r = getD (reportOf d .guarantees) place noGuarantee in outcomeGround (r .outcome) ≢ 0 → (outcomeValue (r .outcome) ≡ 0) × (r .portion ≡ 0)
-  -- guarantees cover in rising order of weight, equal weights in order of adding: as a stable sort and one pass over it
-  pub rising-order : (exposure : ℕ) (pieces : List Protection) → sort (covered exposure pieces) ≡ pass exposure (sort pieces)
-  -- the portions and the uncovered rest make up E*, in every report
-  pub conserved : (d : Deal) → sumOf (λ r. r .portion) (reportOf d .guarantees) + reportOf d .uncovered ≡ reportOf d .exposure
-  -- E* is never above the deal's amount
-  pub capped : (d : Deal) → reportOf d .exposure ≤ d .terms .amount

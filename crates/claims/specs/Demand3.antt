@@ -2,8 +2,11 @@
 -- risk-weighted amount reported after the list is no higher than the one reported before it, and no higher than that of the same deal
 -- without protection. .. All rounding is included."
 --
--- A betterment is a constructor of `Better` (betterment/specs/Betterments), a list of them with refused ones `Betterments`. The amount is
--- the one in the report that `relief::report::Report::of` gives, whose contract says that it is `reportOf`.
+-- What a betterment is stands in betterment/specs/Betterments: `BetterItem` ("a larger item", "a better step between two rated steps of a
+-- security or guarantor", "the deal's own currency", "longer residual or original cover", "a condition now met"), `OneMore` ("one more item"),
+-- `BetterTerms` ("more frequent revaluation", a better step of the goods lent). "A longer life of the pledged bond itself is not one": no
+-- constructor changes it. A list of them, refused ones among them, is `Betterments`. The amount is the one in the report that
+-- `relief::report::Report::of` gives, whose contract says that it is `reportOf`.
 use Prim.Native.Nat.{_≤_}
 use mathlib.Core.Path.{_≡_}
 use mathlib.Core.Bool.{true}
@@ -13,6 +16,8 @@ use Rattle.relief.specs.Report.{reportOf}
 use Rattle.betterment.specs.Betterments.{Betterments}
 
 pub record Demand3 : Type 0 where
+  -- the deal after the list is accepted, so that its amount is a figure and not the 0 of a refusal
+  pub still-accepted : (before after : Deal) → accepted before ≡ true → Betterments before after → accepted after ≡ true
   -- no higher than before the list
   pub than-before : (before after : Deal) → accepted before ≡ true → Betterments before after → reportOf after .rwa ≤ reportOf before .rwa
   -- no higher than that of the deal as it then stands, without protection
