@@ -30,7 +30,7 @@ pub struct Collateral {
 }
 
 pub struct CollateralList {
-    pub items: [Collateral; 16],
+    pub items: [Collateral; Deal::COLLATERAL_LIMIT],
     pub count: usize,
 }
 
@@ -97,7 +97,7 @@ impl CollateralList {
     pub fn empty() -> CollateralList
         ensures { λ r. ⌜ r ≡ emptyCollateral ⌝ }
     {
-        let items = [Collateral::ZERO; 16];
+        let items = [Collateral::ZERO; Deal::COLLATERAL_LIMIT];
         CollateralList { items, count: 0 }
     }
 

@@ -27,7 +27,7 @@ pub struct Guarantee {
 }
 
 pub struct GuaranteeList {
-    pub items: [Guarantee; 16],
+    pub items: [Guarantee; Deal::GUARANTEE_LIMIT],
     pub count: usize,
 }
 
@@ -87,7 +87,7 @@ impl GuaranteeList {
     pub fn empty() -> GuaranteeList
         ensures { λ r. ⌜ r ≡ emptyGuarantees ⌝ }
     {
-        let items = [Guarantee::ZERO; 16];
+        let items = [Guarantee::ZERO; Deal::GUARANTEE_LIMIT];
         GuaranteeList { items, count: 0 }
     }
 

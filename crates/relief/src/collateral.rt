@@ -18,6 +18,7 @@ use crate::maturity::short_residual;
 use crate::outcome::Outcome;
 use deal::collateral::Collateral;
 use deal::collateral::CollateralList;
+use deal::deal::Deal;
 use deal::terms::Terms;
 use scaling::factor::TimeFactor;
 use tables::eligibility::eligible;
@@ -31,7 +32,7 @@ pub struct CollateralReport {
 
 // What all items come to, in order of adding.
 pub struct CollateralValues {
-    pub reports: [CollateralReport; 16],
+    pub reports: [CollateralReport; Deal::COLLATERAL_LIMIT],
     pub total: u64,
 }
 
@@ -83,7 +84,7 @@ pub fn value_collateral(terms: Terms, list: CollateralList, factor: TimeFactor) 
     let none = CollateralReport {
         outcome: Outcome::Valued(0),
     };
-    let mut reports = [none; 16];
+    let mut reports = [none; Deal::COLLATERAL_LIMIT];
     let mut total: u64 = 0;
     let mut i: usize = 0;
     while i < count {

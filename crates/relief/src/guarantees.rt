@@ -16,14 +16,15 @@ use crate::guarantee::GuaranteeReport;
 use crate::guarantee::guarantee_outcome;
 use crate::outcome::Outcome;
 use cover::protection::Protection;
+use deal::deal::Deal;
 use deal::guarantee::GuaranteeList;
 use deal::terms::Terms;
 use scaling::factor::TimeFactor;
 
 // In order of adding.
 pub struct GuaranteeValues {
-    pub reports: [GuaranteeReport; 16],
-    pub protections: [Protection; 16],
+    pub reports: [GuaranteeReport; Deal::GUARANTEE_LIMIT],
+    pub protections: [Protection; Deal::GUARANTEE_LIMIT],
 }
 
 // Every guarantee of a deal.
@@ -44,8 +45,8 @@ pub fn value_guarantees(
         outcome: Outcome::Valued(0),
         portion: 0,
     };
-    let mut reports = [none; 16];
-    let mut protections = [Protection::NONE; 16];
+    let mut reports = [none; Deal::GUARANTEE_LIMIT];
+    let mut protections = [Protection::NONE; Deal::GUARANTEE_LIMIT];
     let mut i: usize = 0;
     while i < count {
         let item = items[i];

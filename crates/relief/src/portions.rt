@@ -7,13 +7,14 @@ ghost use Rattle.relief.specs.Report.{noGuarantee};
 ghost use Rattle.relief.specs.Portions.{covering};
 use crate::guarantee::GuaranteeReport;
 use crate::outcome::Outcome;
+use deal::deal::Deal;
 
 // The reports with their portions.
 pub fn with_portions(
-    values: [GuaranteeReport; 16],
-    portions: [u64; 16],
+    values: [GuaranteeReport; Deal::GUARANTEE_LIMIT],
+    portions: [u64; Deal::GUARANTEE_LIMIT],
     count: usize,
-) -> [GuaranteeReport; 16]
+) -> [GuaranteeReport; Deal::GUARANTEE_LIMIT]
     requires { ⌜ count ≤ 16 ⌝ }
     ensures { λ r. ⌜ r ≡ zipWith covering (take count values) (take count portions) ++ drop count (replicate 16 noGuarantee) ⌝ }
 {
@@ -21,7 +22,7 @@ pub fn with_portions(
         outcome: Outcome::Valued(0),
         portion: 0,
     };
-    let mut reports = [none; 16];
+    let mut reports = [none; Deal::GUARANTEE_LIMIT];
     let mut i: usize = 0;
     while i < count {
         let value = values[i];

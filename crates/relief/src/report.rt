@@ -32,8 +32,8 @@ pub struct Report {
     // The exposure after collateral, E*.
     pub exposure: u64,
     // In order of adding.
-    pub collateral: [CollateralReport; 16],
-    pub guarantees: [GuaranteeReport; 16],
+    pub collateral: [CollateralReport; Deal::COLLATERAL_LIMIT],
+    pub guarantees: [GuaranteeReport; Deal::GUARANTEE_LIMIT],
     // The uncovered rest of the exposure.
     pub uncovered: u64,
     // The risk-weighted amount.
@@ -51,8 +51,8 @@ pub fn refused() -> Report
         outcome: Outcome::Valued(0),
         portion: 0,
     };
-    let collateral = [no_collateral; 16];
-    let guarantees = [no_guarantee; 16];
+    let collateral = [no_collateral; Deal::COLLATERAL_LIMIT];
+    let guarantees = [no_guarantee; Deal::GUARANTEE_LIMIT];
     Report {
         answer: Answer::RecordNotAccepted,
         exposure: 0,
