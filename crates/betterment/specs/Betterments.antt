@@ -89,13 +89,13 @@ abbrev pub NoHigher : (Deal → ℕ) → Deal → Deal → Type 0
 NoHigher amount before after = (amount after ≤ amount before) × (amount after ≤ amount (withoutProtection (after .terms)))
 
 -- "a single claim about the whole list"
-abbrev pub NeverRaisedBy : (Deal → ℕ) → Type 0
-NeverRaisedBy amount = (before after : Deal) → accepted before ≡ true → Betterments before after → NoHigher amount before after
+abbrev pub NeverRaises : (Deal → ℕ) → Type 0
+NeverRaises amount = (before after : Deal) → accepted before ≡ true → Betterments before after → NoHigher amount before after
 
 -- under one table for all deals, whichever it is
 abbrev pub NeverRaisedUnder : Table → Type 0
-NeverRaisedUnder table = NeverRaisedBy (λ d. reportUnder table d .rwa)
+NeverRaisedUnder table = NeverRaises (λ d. reportUnder table d .rwa)
 
 -- DEMAND 3, of the "weighted amounts that reporting gives"
 abbrev pub NeverRaised : Type 0
-NeverRaised = NeverRaisedBy (λ d. reportOf d .rwa)
+NeverRaised = NeverRaises (λ d. reportOf d .rwa)

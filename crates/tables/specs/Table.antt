@@ -1,5 +1,5 @@
 -- The figures that depend on type, class and step, as one set, and laws of such a set that suffice for 01: Betterments:
--- with them a better step, a listing or a better provider never raises the weighted amount
+-- with them a better step of goods or provider, or a listing, never raises the weighted amount
 use Prim.Native.Nat.{ℕ, _≤_}
 use mathlib.Core.Path.{_≡_}
 use mathlib.Core.Bool.{Bool, true}
@@ -53,7 +53,7 @@ pub record TableLaws (t : Table) : Type 0 where
   -- nor have goods lent, whether eligible or not
   pub step-lent :
       (goods step step′ life : ℕ) → Goods goods → NoWorseStep step′ step → t .lentHaircut goods step′ life ≤ t .lentHaircut goods step life
-  -- a better provider weighs no more
+  -- a better step of a provider weighs no more
   pub step-weight :
       (class step step′ : ℕ) → Provider class → NoWorseStep step′ step → t .providerWeight class step′ ≤ t .providerWeight class step
   -- a listing takes nothing away
