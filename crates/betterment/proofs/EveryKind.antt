@@ -4,7 +4,7 @@ use mathlib.Core.Path.{_≡_, refl}
 use mathlib.Core.Bool.{true, false}
 use mathlib.Core.List.{List, [], _∷_, _++_, map}
 use native.Mathlib.Omega.{arith}
-use lib.ListN.{getD}
+use lib.ListN.{getD, set}
 use Rattle.deal.specs.Fields.{collateralFields, guaranteeFields, termsFields}
 use Rattle.deal.specs.Records.{accepted}
 use Rattle.deal.specs.declared.terms.Terms.{Terms}
@@ -33,6 +33,21 @@ guarantee-named g = (refl, (refl, refl))
 
 pub terms-named : (t : Terms) → at (termsFields t) (intervalPlace ∷ lentStepPlace ∷ []) ≡ t .interval ∷ t .lent .step ∷ []
 terms-named t = refl
+
+-- and nothing but the number in its place is changed
+pub collateral-else : (c : Collateral) (new : ℕ) →
+    (let places : List ℕ = collateralPlaces .higher ++ collateralPlaces .steps ++ collateralPlaces .currencies ++ collateralPlaces .conditions in
+    map (λ k. collateralFields (changedCollateral k new c)) places ≡ map (λ k. set (collateralFields c) k new) places)
+collateral-else c new = refl
+
+pub guarantee-else : (g : Guarantee) (new : ℕ) →
+    (let places : List ℕ = guaranteePlaces .higher ++ guaranteePlaces .steps ++ guaranteePlaces .currencies ++ guaranteePlaces .conditions in
+    map (λ k. guaranteeFields (changedGuarantee k new g)) places ≡ map (λ k. set (guaranteeFields g) k new) places)
+guarantee-else g new = refl
+
+pub terms-else : (t : Terms) (new : ℕ) →
+    map (λ k. termsFields (changedTerms k new t)) (intervalPlace ∷ lentStepPlace ∷ []) ≡ map (λ k. set (termsFields t) k new) (intervalPlace ∷ lentStepPlace ∷ [])
+terms-else t new = refl
 
 -- at any place of a list
 changed-at : {A : Type 0} (Change : A → A → Type 0) (front back : List A) (old new : A) → Change old new →
@@ -140,6 +155,13 @@ any-record d d′ b e = Betterments.made b e Betterments.no-more
 -- and none, where a record holds the same fields and items otherwise
 pub any-holding : (d d′ : Deal) → viewOf d ≡ viewOf d′ → accepted d′ ≡ true → Betterments d d′
 any-holding d d′ same e = Betterments.held-otherwise same e Betterments.no-more
+
+-- one list behind another is a list
+pub joined : {d e f : Deal} → Betterments d e → Betterments e f → Betterments d f
+joined Betterments.no-more m = m
+joined (Betterments.held-otherwise same a l) m = Betterments.held-otherwise same a (joined l m)
+joined (Betterments.made b a l) m = Betterments.made b a (joined l m)
+joined (Betterments.refused v b r l) m = Betterments.refused v b r (joined l m)
 
 -- one refused
 pub any-refused : (d : Deal) (v : View) → Better (viewOf d) v → acceptedView v ≡ false → Betterments d d

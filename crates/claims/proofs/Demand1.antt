@@ -2,22 +2,26 @@
 use Prim.Native.Nat.{ℕ, _+_}
 use mathlib.Core.Path.{_≡_, refl, sym, ap, _∙_}
 use mathlib.Core.Bool.{Bool, true, false, not}
-use mathlib.Core.List.{List, [], _∷_}
+use mathlib.Core.List.{List, [], _∷_, map}
 use lib.Dec.{eqb}
-use lib.ListN.{getD, length, take}
+use lib.ListN.{getD, length, replicate, take}
 use borrow.Author.Tests.{eq-eqb}
 use Rattle.base.specs.Choice.{if_then_else_}
 use Rattle.base.specs.FirstMet.{_when_, firstOr}
+use Rattle.base.specs.Range.{within}
 use Rattle.base.proofs.Choice.{either, if-true}
 use Rattle.base.proofs.FirstMet.{exact, first-holds, met-first}
 use Rattle.base.proofs.Tests.{not-true, told-not-false}
 use Rattle.deal.specs.Adding.{addCollateralRefusal, addCollateralTests, addGuaranteeRefusal, addGuaranteeTests, withCollateral, withGuarantee}
 use Rattle.deal.specs.Answers.{answerNumber}
+use Rattle.deal.specs.Assets.{assetStepAllowed, lifeAllowed}
 use Rattle.deal.specs.Checks.{fieldTests}
-use Rattle.deal.specs.Collateral.{appendCollateral, collateralListRefusal, collateralListTests, collateralTests}
+use Rattle.deal.specs.Collateral.{appendCollateral, collateralListAllowed, collateralListRefusal, collateralListTests, collateralRefusal, collateralTests}
 use Rattle.deal.specs.Editions.{tableFor}
-use Rattle.deal.specs.Guarantees.{appendGuarantee, guaranteeListRefusal, guaranteeListTests, guaranteeTests}
-use Rattle.deal.specs.Records.{accepted, dealOf, recordAllowed}
+use Rattle.deal.specs.Fields.{collateralIn, guaranteeIn, termsIn}
+use Rattle.deal.specs.Guarantees.{appendGuarantee, guaranteeListAllowed, guaranteeListRefusal, guaranteeListTests, guaranteeRefusal, guaranteeTests}
+use Rattle.deal.specs.Records.{accepted, dealOf, dealWith, recordAllowed}
+use Rattle.deal.specs.Parties.{partyStepAllowed}
 use Rattle.deal.specs.Terms.{termsChecks, termsRefusal, termsTests}
 use Rattle.deal.specs.declared.terms.Terms.{Terms}
 use Rattle.deal.specs.declared.collateral.Collateral.{Collateral}
@@ -45,6 +49,73 @@ of-opening = 0 ∷ 1 ∷ 2 ∷ 3 ∷ 4 ∷ 5 ∷ []
 abbrev of-adding : List ℕ
 of-adding = 0 ∷ 40 ∷ 6 ∷ 1 ∷ 2 ∷ 3 ∷ 4 ∷ 5 ∷ 7 ∷ 8 ∷ []
 
+abbrev of-reporting : List ℕ
+of-reporting = 0 ∷ 40 ∷ []
+
+-- a list names its own numbers and no other
+no-other : map (isAmong of-reporting) (0 ∷ 6 ∷ 40 ∷ []) ≡ true ∷ false ∷ true ∷ []
+no-other = refl
+
+-- and each number that is listed is given: by opening
+opening-each : map (λ fields. termsRefusal (termsIn fields)) (
+    (0 ∷ 1 ∷ 0 ∷ 1 ∷ 1 ∷ 1 ∷ 1 ∷ 1 ∷ [])
+    ∷ (1000000000001 ∷ [])
+    ∷ []
+    ∷ (0 ∷ 1 ∷ 7 ∷ 0 ∷ 1 ∷ 0 ∷ 0 ∷ 1 ∷ [])
+    ∷ (0 ∷ 1 ∷ 0 ∷ 0 ∷ 1 ∷ 0 ∷ 0 ∷ 1 ∷ [])
+    ∷ (0 ∷ 1 ∷ 0 ∷ 1 ∷ 1 ∷ 0 ∷ 0 ∷ 1 ∷ [])
+    ∷ []
+    ) ≡ of-opening
+unfolding termsRefusal termsTests firstOr within partyStepAllowed assetStepAllowed lifeAllowed if_then_else_
+opening-each = refl
+
+-- by adding
+abbrev sound : List ℕ
+sound = 0 ∷ 1 ∷ 0 ∷ 1 ∷ 1 ∷ 1 ∷ 1 ∷ 1 ∷ []
+
+adding-each :
+    (let cash : Collateral = collateralIn (0 ∷ 1 ∷ 0 ∷ 0 ∷ 1 ∷ 1 ∷ 1 ∷ []) in
+    let added : List ℕ → ℕ = λ fields. addCollateralRefusal (dealWith (termsIn sound) [] []) (collateralIn fields) in
+    added (0 ∷ 1 ∷ 0 ∷ 0 ∷ 1 ∷ 1 ∷ 1 ∷ [])
+    ∷ addCollateralRefusal (dealWith (termsIn []) [] []) cash
+    ∷ addCollateralRefusal (dealWith (termsIn sound) (replicate 16 cash) []) cash
+    ∷ map added (
+    (1000000000001 ∷ [])
+    ∷ []
+    ∷ (0 ∷ 1 ∷ 7 ∷ [])
+    ∷ (0 ∷ 1 ∷ [])
+    ∷ (0 ∷ 1 ∷ 0 ∷ 0 ∷ 1 ∷ [])
+    ∷ (0 ∷ 1 ∷ 0 ∷ 0 ∷ 1 ∷ 2 ∷ 1 ∷ [])
+    ∷ (0 ∷ 1 ∷ 0 ∷ 0 ∷ 1 ∷ 1 ∷ 1 ∷ 2 ∷ [])
+    ∷ []
+    ) ≡ of-adding)
+unfolding addCollateralRefusal addCollateralTests recordAllowed collateralListTests collateralListAllowed guaranteeListAllowed termsRefusal termsTests collateralRefusal collateralTests guaranteeRefusal guaranteeTests firstOr within partyStepAllowed assetStepAllowed lifeAllowed if_then_else_
+adding-each = refl
+
+guarantees-each :
+    (let backing : Guarantee = guaranteeIn (0 ∷ 1 ∷ 0 ∷ 1 ∷ 1 ∷ 1 ∷ []) in
+    let added : List ℕ → ℕ = λ fields. addGuaranteeRefusal (dealWith (termsIn sound) [] []) (guaranteeIn fields) in
+    added (0 ∷ 1 ∷ 0 ∷ 1 ∷ 1 ∷ 1 ∷ [])
+    ∷ addGuaranteeRefusal (dealWith (termsIn []) [] []) backing
+    ∷ addGuaranteeRefusal (dealWith (termsIn sound) [] (replicate 16 backing)) backing
+    ∷ map added (
+    (1000000000001 ∷ [])
+    ∷ []
+    ∷ (0 ∷ 1 ∷ 7 ∷ [])
+    ∷ (0 ∷ 1 ∷ [])
+    ∷ (0 ∷ 1 ∷ 0 ∷ 1 ∷ [])
+    ∷ (0 ∷ 1 ∷ 0 ∷ 1 ∷ 2 ∷ 1 ∷ [])
+    ∷ (0 ∷ 1 ∷ 0 ∷ 1 ∷ 1 ∷ 1 ∷ 2 ∷ [])
+    ∷ []
+    ) ≡ of-adding)
+unfolding addGuaranteeRefusal addGuaranteeTests recordAllowed guaranteeListTests collateralListAllowed guaranteeListAllowed termsRefusal termsTests collateralRefusal collateralTests guaranteeRefusal guaranteeTests firstOr within partyStepAllowed assetStepAllowed lifeAllowed if_then_else_
+guarantees-each = refl
+
+-- by reporting
+reporting-each : reportRefusal (dealWith (termsIn sound) [] []) ∷ reportRefusal (dealWith (termsIn []) [] []) ∷ [] ≡ of-reporting
+unfolding reportRefusal accepted recordAllowed collateralListAllowed guaranteeListAllowed termsRefusal termsTests firstOr within partyStepAllowed assetStepAllowed lifeAllowed if_then_else_
+reporting-each = refl
+
 opening-numbers : (t : Terms) → Among of-opening (termsRefusal t)
 unfolding termsRefusal termsTests firstOr if_then_else_
 opening-numbers t = first-holds 0 (Among of-opening) (take 5 (fieldTests (termsChecks t))) (refl, (refl, (refl, (refl, (refl, tt))))) (λ none. refl)
@@ -59,9 +130,9 @@ unfolding addGuaranteeRefusal addGuaranteeTests guaranteeListTests guaranteeTest
 guarantee-numbers d g =
     first-holds 0 (Among of-adding) (addGuaranteeTests d g) (refl, (refl, (refl, (refl, (refl, (refl, (refl, (refl, (refl, tt))))))))) (λ none. refl)
 
-report-numbers : (d : Deal) → Among (0 ∷ 40 ∷ []) (reportRefusal d)
+report-numbers : (d : Deal) → Among of-reporting (reportRefusal d)
 unfolding reportRefusal
-report-numbers d = first-holds 0 (Among (0 ∷ 40 ∷ [])) _ (refl, tt) (λ none. refl)
+report-numbers d = first-holds 0 (Among of-reporting) _ (refl, tt) (λ none. refl)
 
 book-numbers : (text : List ℕ) (places : ℕ) → Among (0 ∷ 10 ∷ 9 ∷ 12 ∷ 13 ∷ []) (bookRefusal text places)
 unfolding bookRefusal bookTests

@@ -19,6 +19,40 @@ use Rattle.deal.specs.declared.collateral.Collateral.{Collateral}
 use Rattle.deal.specs.declared.guarantee.Guarantee.{Guarantee}
 use Rattle.deal.specs.declared.deal.Deal.{Deal}
 
+-- each number is the field that the paper names in its place
+fields-in-place :
+    (termsIn (0 ∷ 1 ∷ 2 ∷ 3 ∷ 4 ∷ 5 ∷ 6 ∷ 7 ∷ 8 ∷ 9 ∷ []) ≡ record {
+      amount = 0;
+      counterparty = record { class = 1; step = 2 };
+      currency = 3;
+      kind = 4;
+      interval = 5;
+      residual = 6;
+      lent = record { goods = 7; step = 8; life = 9 };
+    })
+    × ((collateralIn (0 ∷ 1 ∷ 2 ∷ 3 ∷ 4 ∷ 5 ∷ 6 ∷ 7 ∷ 8 ∷ 9 ∷ 10 ∷ []) ≡ record {
+      amount = 0;
+      asset = record { goods = 1; step = 2; life = 3 };
+      currency = 4;
+      residual = 5;
+      original = 6;
+      lawful = 7;
+      unrelated = 8;
+      «not_in_rating» = 9;
+      listed = 10;
+    })
+    × (guaranteeIn (0 ∷ 1 ∷ 2 ∷ 3 ∷ 4 ∷ 5 ∷ 6 ∷ 7 ∷ 8 ∷ []) ≡ record {
+      amount = 0;
+      provider = record { class = 1; step = 2 };
+      currency = 3;
+      residual = 4;
+      original = 5;
+      lawful = 6;
+      direct = 7;
+      «not_in_rating» = 8;
+    }))
+fields-in-place = (refl, (refl, refl))
+
 abbrev opened : List ℕ
 opened =
     -- the three deals of 01, The book; the second "500 2 7 .." is answered by 3

@@ -116,6 +116,41 @@ pub capped : reportOf (dealWith (termsIn (100 ∷ 3 ∷ 0 ∷ 978 ∷ 1 ∷ 6 �
 unfolding computed
 capped = refl
 
+-- 29 at an equal weight: a bank at step 2 for a corporate at step 2
+pub equal-weight : guaranteeGrounds (loan 2) (record {
+  amount = 9000;
+  provider = record { class = 2; step = 2 };
+  currency = 978;
+  residual = 1800;
+  original = 1800;
+  lawful = 1;
+  direct = 1;
+  «not_in_rating» = 1;
+} ∷ []) 1 ≡ 29 ∷ []
+unfolding computed
+equal-weight = refl
+
+-- unrated bank debt is eligible by its listing alone
+pub by-listing : collateralGrounds (loan 0) (pledge 4 0 360 1800 1800 1 1 1 ∷ record {
+  amount = 9000;
+  asset = record { goods = 4; step = 0; life = 360 };
+  currency = 978;
+  residual = 1800;
+  original = 1800;
+  lawful = 1;
+  unrelated = 1;
+  «not_in_rating» = 1;
+  listed = 1;
+} ∷ []) 2 ≡ 24 ∷ 0 ∷ []
+unfolding computed
+by-listing = refl
+
+-- of goods lent their own life counts, and not the deal's term: 1,000,000 of sovereign debt with 360 days to run, raised by 5000 millionths,
+-- less 9,000 of cash
+pub lent-life : reportOf (dealWith (termsIn (1000000 ∷ 3 ∷ 0 ∷ 978 ∷ 2 ∷ 1 ∷ 1800 ∷ 2 ∷ 1 ∷ 360 ∷ [])) (pledge 1 0 0 1800 1800 1 1 1 ∷ []) []) .exposure ≡ 996000
+unfolding computed
+lent-life = refl
+
 -- short cover that lasts as long as its deal is no mismatch: neither 25 nor 26
 pub no-mismatch : (collateralGrounds (termsIn (10000 ∷ 3 ∷ 0 ∷ 978 ∷ 3 ∷ 1 ∷ 30 ∷ 1 ∷ 0 ∷ 0 ∷ [])) (pledge 1 0 0 30 30 1 1 1 ∷ []) 1 ≡ 0 ∷ [])
     × (guaranteeGrounds (termsIn (10000 ∷ 3 ∷ 0 ∷ 978 ∷ 3 ∷ 1 ∷ 30 ∷ 1 ∷ 0 ∷ 0 ∷ [])) (guarantee 2 978 30 30 1 1 1 ∷ []) 1 ≡ 0 ∷ [])

@@ -3,6 +3,7 @@ use mathlib.Core.Path.{_≡_, refl}
 use mathlib.Core.Bool.{Bool, true}
 use mathlib.Core.List.{List, [], _∷_}
 use lib.Dec.{eqb, ltb}
+use lib.ListN.{length}
 use borrow.Author.Tests.{eqb-true, ltb-true}
 use Rattle.base.specs.All.{allPass}
 use Rattle.base.proofs.Every.{both}
@@ -31,3 +32,7 @@ all-right (f ∷ fs) e = let b = both (agrees f) (allPass fs agrees) e in (right
 pub starred-right : AllRight starred
 unfolding computed answerNumber
 starred-right = all-right starred refl
+
+-- none of them is left out
+all-there : length starred ≡ 26
+all-there = refl

@@ -4,6 +4,7 @@ use mathlib.Core.Path.{_≡_, refl}
 use mathlib.Core.List.{List, [], _∷_, map}
 use Rattle.base.specs.Choice.{if_then_else_}
 use Rattle.base.specs.Range.{within}
+use Rattle.tables.specs.Classes.{sovereign, bank, corporate, retail, bankOrSecuritiesFirm, otherEntity}
 use Rattle.tables.specs.Eligibility.{eligible, bankDebtEligible, equityOrGold}
 use Rattle.tables.specs.Haircuts.{bandOf, rowOf, issuerColumn, debtHaircut, haircut, lentHaircut}
 use Rattle.tables.specs.Weights.{stepColumn, tableWeight, providerWeight, counterpartyWeight}
@@ -44,6 +45,15 @@ pub lent : map (λ g. map (λ s. lentHaircut g s 361) steps) (2 ∷ 3 ∷ 4 ∷ 
     ∷ []
 unfolding eligible bankDebtEligible equityOrGold within rowOf bandOf issuerColumn debtHaircut haircut lentHaircut if_then_else_
 lent = refl
+
+-- the classes by their names, at step 1 and unrated
+pub named :
+    (map (λ c. counterpartyWeight c 1) (sovereign ∷ bank ∷ corporate ∷ []) ≡ 0 ∷ 20 ∷ 20 ∷ [])
+    × (map (λ c. counterpartyWeight c 0) (bank ∷ corporate ∷ retail ∷ []) ≡ 50 ∷ 100 ∷ 75 ∷ [])
+    × (map (λ c. providerWeight c 1) (sovereign ∷ bankOrSecuritiesFirm ∷ otherEntity ∷ []) ≡ 0 ∷ 20 ∷ 20 ∷ [])
+    × (map (λ c. providerWeight c 0) (bankOrSecuritiesFirm ∷ otherEntity ∷ []) ≡ 50 ∷ 100 ∷ [])
+unfolding stepColumn tableWeight counterpartyWeight providerWeight if_then_else_
+named = (refl, refl, refl, refl)
 
 -- weights, unrated first
 abbrev weights : List (List ℕ)

@@ -2,13 +2,7 @@
 pub const SOVEREIGN: u64 = 1;
 
 // Of a counterparty.
-pub const BANK: u64 = 2;
-
-pub const CORPORATE: u64 = 3;
-
 pub const RETAIL: u64 = 4;
 
 // Of a provider.
-pub const BANK_OR_SECURITIES_FIRM: u64 = 2;
-
 pub const OTHER_ENTITY: u64 = 3;
