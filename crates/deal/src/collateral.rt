@@ -1,10 +1,7 @@
 // Collateral, and the list of it that a deal holds.
-ghost use mathlib.Core.Bool.{_&&_};
 ghost use mathlib.Core.Path.{_≡_};
 ghost use Rattle.deal.specs.Answers.{answerNumber};
 ghost use Rattle.deal.specs.Collateral.{emptyCollateral, collateralListAllowed, collateralListRefusal, collateralListWith, collateralRefusal};
-ghost use Rattle.deal.specs.Assets.{lifeAllowed};
-ghost use Rattle.deal.specs.Ranges.{conditionAllowed, daysAllowed};
 use crate::answer::Answer;
 use crate::asset::Asset;
 use crate::checks::FieldChecks;
@@ -57,36 +54,26 @@ impl Collateral {
         listed: 0,
     };
 
-    // Both terms of the pledge and the issue life.
-    fn days_in_range(self) -> bool
-        ensures { λ r. ⌜ r ≡ (daysAllowed (self .residual) && daysAllowed (self .original) && lifeAllowed (self .asset)) ⌝ }
-    {
-        let asset = self.asset;
-        days_allowed(self.residual) & days_allowed(self.original) & asset.life_allowed()
-    }
-
-    fn conditions_allowed(self) -> bool
-        ensures { λ r. ⌜ r ≡ (conditionAllowed (self .lawful) && conditionAllowed (self .unrelated) && conditionAllowed (self .not_in_rating) && conditionAllowed (self .listed)) ⌝ }
-    {
-        condition_allowed(self.lawful)
-            & condition_allowed(self.unrelated)
-            & condition_allowed(self.not_in_rating)
-            & condition_allowed(self.listed)
-    }
-
     // The first refusal that its own fields meet.
     pub fn check(self) -> Answer
         ensures { λ r. ⌜ answerNumber r ≡ collateralRefusal self ⌝ }
     {
         let asset = self.asset;
+        let ranges = days_allowed(self.residual)
+            & days_allowed(self.original)
+            & asset.life_allowed();
+        let conditions = condition_allowed(self.lawful)
+            & condition_allowed(self.unrelated)
+            & condition_allowed(self.not_in_rating)
+            & condition_allowed(self.listed);
         let checks = FieldChecks {
             amount: amount_allowed(self.amount),
             codes: asset.goods_known(),
             steps: asset.step_allowed(),
             currency: currency_allowed(self.currency),
-            ranges: self.days_in_range(),
+            ranges,
             maturity: self.residual <= self.original,
-            conditions: self.conditions_allowed(),
+            conditions,
         };
         checks.answer()
     }

@@ -1,9 +1,7 @@
 // Guarantees, and the list of them that a deal holds.
-ghost use mathlib.Core.Bool.{_&&_};
 ghost use mathlib.Core.Path.{_≡_};
 ghost use Rattle.deal.specs.Answers.{answerNumber};
 ghost use Rattle.deal.specs.Guarantees.{emptyGuarantees, guaranteeListAllowed, guaranteeListRefusal, guaranteeListWith, guaranteeRefusal};
-ghost use Rattle.deal.specs.Ranges.{conditionAllowed, daysAllowed};
 use crate::answer::Answer;
 use crate::checks::FieldChecks;
 use crate::deal::Deal;
@@ -49,34 +47,23 @@ impl Guarantee {
         not_in_rating: 0,
     };
 
-    // Both terms of the guarantee.
-    fn days_in_range(self) -> bool
-        ensures { λ r. ⌜ r ≡ (daysAllowed (self .residual) && daysAllowed (self .original)) ⌝ }
-    {
-        days_allowed(self.residual) & days_allowed(self.original)
-    }
-
-    fn conditions_allowed(self) -> bool
-        ensures { λ r. ⌜ r ≡ (conditionAllowed (self .lawful) && conditionAllowed (self .direct) && conditionAllowed (self .not_in_rating)) ⌝ }
-    {
-        condition_allowed(self.lawful)
-            & condition_allowed(self.direct)
-            & condition_allowed(self.not_in_rating)
-    }
-
     // The first refusal that its own fields meet.
     pub fn check(self) -> Answer
         ensures { λ r. ⌜ answerNumber r ≡ guaranteeRefusal self ⌝ }
     {
         let provider = self.provider;
+        let ranges = days_allowed(self.residual) & days_allowed(self.original);
+        let conditions = condition_allowed(self.lawful)
+            & condition_allowed(self.direct)
+            & condition_allowed(self.not_in_rating);
         let checks = FieldChecks {
             amount: amount_allowed(self.amount),
             codes: provider.provider_known(),
             steps: provider.step_allowed(),
             currency: currency_allowed(self.currency),
-            ranges: self.days_in_range(),
+            ranges,
             maturity: self.residual <= self.original,
-            conditions: self.conditions_allowed(),
+            conditions,
         };
         checks.answer()
     }
