@@ -118,7 +118,7 @@ reporting-each = refl
 
 opening-numbers : (t : Terms) → Among of-opening (termsRefusal t)
 unfolding termsRefusal termsTests firstOr if_then_else_
-opening-numbers t = first-holds 0 (Among of-opening) (take 5 (fieldTests (termsChecks t))) (refl, (refl, (refl, (refl, (refl, tt))))) (λ none. refl)
+opening-numbers t = first-holds 0 (Among of-opening) (take 5 (fieldTests (termsChecks daysLimit t))) (refl, (refl, (refl, (refl, (refl, tt))))) (λ none. refl)
 
 collateral-numbers : (d : Deal) (c : Collateral) → Among of-adding (addCollateralRefusal d c)
 unfolding addCollateralRefusal addCollateralTests collateralListTests collateralTests

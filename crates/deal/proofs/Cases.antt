@@ -159,9 +159,9 @@ abbrev lentAs : ℕ → ℕ → ℕ → ℕ
 lentAs step life goods = termsRefusal (termsIn (500 ∷ 3 ∷ 0 ∷ 978 ∷ 3 ∷ 1 ∷ 1800 ∷ goods ∷ step ∷ life ∷ []))
 
 goods-edges : map (lentAs 0 0) types ∷ map (lentAs 0 360) types ∷ map (lentAs 1 360) types
-    ∷ map (lentAs 1 36000) types ∷ map (lentAs 1 36001) types
+    ∷ map (lentAs 1 100000) types ∷ map (lentAs 1 100001) types
     ∷ map (λ k. termsRefusal (termsIn (500 ∷ 3 ∷ 0 ∷ 978 ∷ k ∷ 1 ∷ 1800 ∷ 1 ∷ 0 ∷ 0 ∷ []))) (0 ∷ 1 ∷ 2 ∷ 3 ∷ 4 ∷ [])
-    ∷ map (λ r. termsRefusal (termsIn (500 ∷ 3 ∷ 0 ∷ 978 ∷ 3 ∷ 1 ∷ r ∷ 1 ∷ 0 ∷ 0 ∷ []))) (0 ∷ 1 ∷ 36000 ∷ 36001 ∷ [])
+    ∷ map (λ r. termsRefusal (termsIn (500 ∷ 3 ∷ 0 ∷ 978 ∷ 3 ∷ 1 ∷ r ∷ 1 ∷ 0 ∷ 0 ∷ []))) (0 ∷ 1 ∷ 100000 ∷ 100001 ∷ [])
     ∷ map (λ i. termsRefusal (termsIn (500 ∷ 3 ∷ 0 ∷ 978 ∷ 3 ∷ i ∷ 1800 ∷ 1 ∷ 0 ∷ 0 ∷ []))) (0 ∷ 1 ∷ 250 ∷ 251 ∷ [])
     ∷ map (λ c. termsRefusal (termsIn (500 ∷ 3 ∷ 0 ∷ c ∷ 3 ∷ 1 ∷ 1800 ∷ 1 ∷ 0 ∷ 0 ∷ []))) (0 ∷ 1 ∷ 999 ∷ 1000 ∷ []) ∷ []
     ≡ (2 ∷ 0 ∷ 5 ∷ 5 ∷ 5 ∷ 5 ∷ 5 ∷ 0 ∷ 0 ∷ 0 ∷ 2 ∷ [])
@@ -191,7 +191,7 @@ items-in-order :
     ∷ item (5 ∷ 1 ∷ 0 ∷ 1 ∷ 978 ∷ 2 ∷ 1 ∷ 2 ∷ 2 ∷ 2 ∷ 2 ∷ [])
     ∷ item (5 ∷ 1 ∷ 0 ∷ 0 ∷ 978 ∷ 2 ∷ 1 ∷ 2 ∷ 2 ∷ 2 ∷ 2 ∷ [])
     ∷ item (5 ∷ 1 ∷ 0 ∷ 0 ∷ 978 ∷ 1 ∷ 1 ∷ 1 ∷ 1 ∷ 1 ∷ 2 ∷ [])
-    ∷ item (5 ∷ 9 ∷ 0 ∷ 0 ∷ 999 ∷ 36000 ∷ 36000 ∷ 1 ∷ 1 ∷ 1 ∷ 1 ∷ [])
+    ∷ item (5 ∷ 9 ∷ 0 ∷ 0 ∷ 999 ∷ 100000 ∷ 100000 ∷ 1 ∷ 1 ∷ 1 ∷ 1 ∷ [])
     ∷ item (5 ∷ 7 ∷ 0 ∷ 1 ∷ 978 ∷ 1 ∷ 1 ∷ 1 ∷ 1 ∷ 1 ∷ 1 ∷ [])
     ∷ item (5 ∷ 2 ∷ 1 ∷ 0 ∷ 978 ∷ 1 ∷ 1 ∷ 1 ∷ 1 ∷ 1 ∷ 1 ∷ [])
     ∷ backing (1000000000001 ∷ 4 ∷ 7 ∷ 0 ∷ 2 ∷ 0 ∷ 2 ∷ 2 ∷ 2 ∷ [])
@@ -200,12 +200,31 @@ items-in-order :
     ∷ backing (5 ∷ 3 ∷ 6 ∷ 0 ∷ 2 ∷ 0 ∷ 2 ∷ 2 ∷ 2 ∷ [])
     ∷ backing (5 ∷ 3 ∷ 6 ∷ 999 ∷ 2 ∷ 0 ∷ 2 ∷ 2 ∷ 2 ∷ [])
     ∷ backing (5 ∷ 3 ∷ 6 ∷ 999 ∷ 2 ∷ 1 ∷ 2 ∷ 2 ∷ 2 ∷ [])
-    ∷ backing (5 ∷ 3 ∷ 6 ∷ 999 ∷ 36000 ∷ 36000 ∷ 1 ∷ 1 ∷ 2 ∷ [])
-    ∷ backing (5 ∷ 3 ∷ 6 ∷ 999 ∷ 36000 ∷ 36000 ∷ 1 ∷ 1 ∷ 1 ∷ [])
+    ∷ backing (5 ∷ 3 ∷ 6 ∷ 999 ∷ 100000 ∷ 100000 ∷ 1 ∷ 1 ∷ 2 ∷ [])
+    ∷ backing (5 ∷ 3 ∷ 6 ∷ 999 ∷ 100000 ∷ 100000 ∷ 1 ∷ 1 ∷ 1 ∷ [])
     ∷ []
     ≡ 1 ∷ 2 ∷ 3 ∷ 4 ∷ 5 ∷ 7 ∷ 8 ∷ 0 ∷ 5 ∷ 5 ∷ 1 ∷ 2 ∷ 3 ∷ 4 ∷ 5 ∷ 7 ∷ 8 ∷ 0 ∷ []
 unfolding collateralRefusal collateralTests guaranteeRefusal guaranteeTests firstOr within partyStepAllowed assetStepAllowed lifeAllowed if_then_else_
 items-in-order = refl
+
+-- "For lives and terms 5 now begins above 100,000" (02: L11), in each field that holds days: the term of a deal and the life of what it
+-- lends; life, residual and original term of collateral; both terms of a guarantee
+abbrev days : List ℕ
+days = 0 ∷ 1 ∷ 36000 ∷ 36001 ∷ 99999 ∷ 100000 ∷ 100001 ∷ []
+
+days-edges :
+    map (λ f. map f days) (
+    (λ n. termsRefusal (termsIn (500 ∷ 3 ∷ 0 ∷ 978 ∷ 3 ∷ 1 ∷ n ∷ 1 ∷ 0 ∷ 0 ∷ [])))
+    ∷ (λ n. lentAs 1 n 2)
+    ∷ (λ n. item (5 ∷ 2 ∷ 1 ∷ n ∷ 978 ∷ 1 ∷ 1 ∷ 1 ∷ 1 ∷ 1 ∷ 1 ∷ []))
+    ∷ (λ n. item (5 ∷ 1 ∷ 0 ∷ 0 ∷ 978 ∷ n ∷ 100000 ∷ 1 ∷ 1 ∷ 1 ∷ 1 ∷ []))
+    ∷ (λ n. item (5 ∷ 1 ∷ 0 ∷ 0 ∷ 978 ∷ 1 ∷ n ∷ 1 ∷ 1 ∷ 1 ∷ 1 ∷ []))
+    ∷ (λ n. backing (5 ∷ 3 ∷ 6 ∷ 978 ∷ n ∷ 100000 ∷ 1 ∷ 1 ∷ 1 ∷ []))
+    ∷ (λ n. backing (5 ∷ 3 ∷ 6 ∷ 978 ∷ 1 ∷ n ∷ 1 ∷ 1 ∷ 1 ∷ []))
+    ∷ [])
+    ≡ replicate 7 (5 ∷ 0 ∷ 0 ∷ 0 ∷ 0 ∷ 0 ∷ 5 ∷ [])
+unfolding termsRefusal termsTests collateralRefusal collateralTests guaranteeRefusal guaranteeTests firstOr within partyStepAllowed assetStepAllowed lifeAllowed if_then_else_
+days-edges = refl
 
 -- fifteen, sixteen, seventeen guarantees
 abbrev guaranteed : ℕ → Guarantee → Deal

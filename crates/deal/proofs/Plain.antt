@@ -11,7 +11,7 @@ use Rattle.base.proofs.Every.{both}
 use Rattle.base.proofs.FirstMet.{none-exactly}
 use Rattle.base.proofs.Range.{bounds}
 use Rattle.base.proofs.Tests.{told-not-true}
-use Rattle.deal.specs.Ranges.{daysAllowed, intervalAllowed, conditionAllowed}
+use Rattle.deal.specs.Ranges.{daysAllowed, daysLimit, intervalAllowed, conditionAllowed}
 use Rattle.deal.specs.Parties.{counterpartyKnown, partyStepAllowed}
 use Rattle.deal.specs.Assets.{isDebt, assetStepAllowed}
 use Rattle.deal.specs.Terms.{kindKnown, termsTests, termsRefusal}
@@ -37,7 +37,7 @@ pub record PlainTerms (t : Terms) : Type 0 where
   pub currency : Between 1 999 (t .currency)
   pub kind : Between 1 3 (t .kind)
   pub interval : Between 1 250 (t .interval)
-  pub residual : Between 1 36000 (t .residual)
+  pub residual : Between 1 daysLimit (t .residual)
   pub lentGoods : Between 1 9 (t .lent .goods)
   pub lentStep : t .lent .step ≤ 6
 
@@ -46,8 +46,8 @@ pub record PlainCollateral (c : Collateral) : Type 0 where
   pub goods : Between 1 9 (c .asset .goods)
   pub step : c .asset .step ≤ 6
   pub currency : Between 1 999 (c .currency)
-  pub residual : Between 1 36000 (c .residual)
-  pub original : Between 1 36000 (c .original)
+  pub residual : Between 1 daysLimit (c .residual)
+  pub original : Between 1 daysLimit (c .original)
   pub terms : c .residual ≤ c .original
   pub lawful : c .lawful ≤ 1
   pub unrelated : c .unrelated ≤ 1
@@ -59,8 +59,8 @@ pub record PlainGuarantee (g : Guarantee) : Type 0 where
   pub class : Between 1 3 (g .provider .class)
   pub step : g .provider .step ≤ 6
   pub currency : Between 1 999 (g .currency)
-  pub residual : Between 1 36000 (g .residual)
-  pub original : Between 1 36000 (g .original)
+  pub residual : Between 1 daysLimit (g .residual)
+  pub original : Between 1 daysLimit (g .original)
   pub terms : g .residual ≤ g .original
   pub lawful : g .lawful ≤ 1
   pub direct : g .direct ≤ 1
@@ -94,7 +94,7 @@ plain-terms t e =
     let known = both (counterpartyKnown (t .counterparty) && kindKnown (t .kind)) _ (held _ (n .1 .0)) in
     let codes = both (counterpartyKnown (t .counterparty)) _ (known .0) in
     let steps = both (partyStepAllowed (t .counterparty)) _ (held _ (n .1 .1 .0)) in
-    let ranges = both (intervalAllowed (t .interval) && daysAllowed (t .residual)) _ (held _ (n .1 .1 .1 .1 .0)) in
+    let ranges = both (intervalAllowed (t .interval) && daysAllowed daysLimit (t .residual)) _ (held _ (n .1 .1 .1 .1 .0)) in
     let days = both (intervalAllowed (t .interval)) _ (ranges .0) in
     record {
       amount = leb-true _ _ (held _ (n .0));
@@ -103,7 +103,7 @@ plain-terms t e =
       currency = bounds 1 999 _ (held _ (n .1 .1 .1 .0));
       kind = bounds 1 3 _ (codes .1);
       interval = bounds 1 250 _ (days .0);
-      residual = bounds 1 36000 _ (days .1);
+      residual = bounds 1 daysLimit _ (days .1);
       lentGoods = bounds 1 9 _ (known .1);
       lentStep = asset-step _ (steps .1);
     }
@@ -112,8 +112,8 @@ pub plain-collateral : (c : Collateral) → collateralRefusal c ≡ 0 → PlainC
 unfolding collateralRefusal collateralTests
 plain-collateral c e =
     let n = none-exactly (collateralTests c) refl e in
-    let ranges = both (daysAllowed (c .residual) && daysAllowed (c .original)) _ (held _ (n .1 .1 .1 .1 .0)) in
-    let days = both (daysAllowed (c .residual)) _ (ranges .0) in
+    let ranges = both (daysAllowed daysLimit (c .residual) && daysAllowed daysLimit (c .original)) _ (held _ (n .1 .1 .1 .1 .0)) in
+    let days = both (daysAllowed daysLimit (c .residual)) _ (ranges .0) in
     let eighth = held _ (n .1 .1 .1 .1 .1 .1 .0) in
     let four = both (conditionAllowed (c .lawful) && conditionAllowed (c .unrelated) && conditionAllowed (c .«not_in_rating»)) _ eighth in
     let three = both (conditionAllowed (c .lawful) && conditionAllowed (c .unrelated)) _ (four .0) in
@@ -123,8 +123,8 @@ plain-collateral c e =
       goods = bounds 1 9 _ (held _ (n .1 .0));
       step = asset-step _ (held _ (n .1 .1 .0));
       currency = bounds 1 999 _ (held _ (n .1 .1 .1 .0));
-      residual = bounds 1 36000 _ (days .0);
-      original = bounds 1 36000 _ (days .1);
+      residual = bounds 1 daysLimit _ (days .0);
+      original = bounds 1 daysLimit _ (days .1);
       terms = leb-true _ _ (held _ (n .1 .1 .1 .1 .1 .0));
       lawful = leb-true _ 1 (two .0);
       unrelated = leb-true _ 1 (two .1);
@@ -136,7 +136,7 @@ pub plain-guarantee : (g : Guarantee) → guaranteeRefusal g ≡ 0 → PlainGuar
 unfolding guaranteeRefusal guaranteeTests
 plain-guarantee g e =
     let n = none-exactly (guaranteeTests g) refl e in
-    let days = both (daysAllowed (g .residual)) _ (held _ (n .1 .1 .1 .1 .0)) in
+    let days = both (daysAllowed daysLimit (g .residual)) _ (held _ (n .1 .1 .1 .1 .0)) in
     let three = both (conditionAllowed (g .lawful) && conditionAllowed (g .direct)) _ (held _ (n .1 .1 .1 .1 .1 .1 .0)) in
     let two = both (conditionAllowed (g .lawful)) _ (three .0) in
     record {
@@ -144,8 +144,8 @@ plain-guarantee g e =
       class = bounds 1 3 _ (held _ (n .1 .0));
       step = party-step _ (held _ (n .1 .1 .0));
       currency = bounds 1 999 _ (held _ (n .1 .1 .1 .0));
-      residual = bounds 1 36000 _ (days .0);
-      original = bounds 1 36000 _ (days .1);
+      residual = bounds 1 daysLimit _ (days .0);
+      original = bounds 1 daysLimit _ (days .1);
       terms = leb-true _ _ (held _ (n .1 .1 .1 .1 .1 .0));
       lawful = leb-true _ 1 (two .0);
       direct = leb-true _ 1 (two .1);

@@ -21,6 +21,6 @@ isDebt goods = within sovereignDebt resecuritisation goods
 unfoldable pub assetStepAllowed : Asset → Bool
 assetStepAllowed asset = if isDebt (asset .goods) then stepAllowed (asset .step) else eqb (asset .step) 0
 
--- ".. and issue life 0; the rest have issue life 1 to 36,000 (the security's own residual life, never the term of the pledge)"
-unfoldable pub lifeAllowed : Asset → Bool
-lifeAllowed asset = if isDebt (asset .goods) then daysAllowed (asset .life) else eqb (asset .life) 0
+-- ".. and issue life 0; the rest have issue life 1 to" the limit of days "(the security's own residual life, never the term of the pledge)"
+unfoldable pub lifeAllowed : ℕ → Asset → Bool
+lifeAllowed limit asset = if isDebt (asset .goods) then daysAllowed limit (asset .life) else eqb (asset .life) 0

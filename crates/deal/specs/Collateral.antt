@@ -5,7 +5,7 @@ use mathlib.Core.List.{List}
 use lib.Dec.{leb}
 use lib.ListN.{replicate}
 use Rattle.base.specs.FirstMet.{Test, firstMet}
-use Rattle.deal.specs.Ranges.{amountAllowed, currencyAllowed, daysAllowed, conditionAllowed}
+use Rattle.deal.specs.Ranges.{amountAllowed, conditionAllowed, currencyAllowed, daysAllowed, daysLimit}
 use Rattle.deal.specs.Assets.{goodsKnown, assetStepAllowed, lifeAllowed}
 use Rattle.deal.specs.Checks.{fieldTests}
 use Rattle.deal.specs.Fields.{zeroCollateral}
@@ -14,21 +14,22 @@ use Rattle.deal.specs.declared.checks.FieldChecks.{FieldChecks}
 use Rattle.deal.specs.declared.collateral.Collateral.{Collateral}
 use Rattle.deal.specs.declared.collateral.CollateralList.{CollateralList}
 
--- what adding asks of each field: "1, 2, 3, 4, 5 as above on the item's fields; 7 residual term above original; 8 a condition neither 0
--- nor 1". Of the condition "listed senior bank paper", which "counts only for type 4 at step 0", "either entry is accepted elsewhere"
-abbrev pub collateralChecks : Collateral → FieldChecks
-collateralChecks c = record {
+-- what adding asks of each field, under a limit of days: "1, 2, 3, 4, 5 as above on the item's fields; 7 residual term above original; 8 a
+-- condition neither 0 nor 1". Of the condition "listed senior bank paper", which "counts only for type 4 at step 0", "either entry is
+-- accepted elsewhere"
+abbrev pub collateralChecks : ℕ → Collateral → FieldChecks
+collateralChecks limit c = record {
   amount = amountAllowed (c .amount);
   codes = goodsKnown (c .asset);
   steps = assetStepAllowed (c .asset);
   currency = currencyAllowed (c .currency);
-  ranges = daysAllowed (c .residual) && daysAllowed (c .original) && lifeAllowed (c .asset);
+  ranges = daysAllowed limit (c .residual) && daysAllowed limit (c .original) && lifeAllowed limit (c .asset);
   maturity = leb (c .residual) (c .original);
   conditions = conditionAllowed (c .lawful) && conditionAllowed (c .unrelated) && conditionAllowed (c .«not_in_rating») && conditionAllowed (c .listed);
 }
 
 unfoldable pub collateralTests : Collateral → List (Test ℕ)
-collateralTests c = fieldTests (collateralChecks c)
+collateralTests c = fieldTests (collateralChecks daysLimit c)
 
 -- the first that is met, or 0
 unfoldable pub collateralRefusal : Collateral → ℕ

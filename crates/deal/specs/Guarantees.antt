@@ -5,7 +5,7 @@ use mathlib.Core.List.{List}
 use lib.Dec.{leb}
 use lib.ListN.{replicate}
 use Rattle.base.specs.FirstMet.{Test, firstMet}
-use Rattle.deal.specs.Ranges.{amountAllowed, currencyAllowed, daysAllowed, conditionAllowed}
+use Rattle.deal.specs.Ranges.{amountAllowed, conditionAllowed, currencyAllowed, daysAllowed, daysLimit}
 use Rattle.deal.specs.Parties.{providerKnown, partyStepAllowed}
 use Rattle.deal.specs.Checks.{fieldTests}
 use Rattle.deal.specs.Fields.{zeroGuarantee}
@@ -15,19 +15,19 @@ use Rattle.deal.specs.declared.guarantee.Guarantee.{Guarantee}
 use Rattle.deal.specs.declared.guarantee.GuaranteeList.{GuaranteeList}
 
 -- what adding asks of each field, as of collateral
-abbrev pub guaranteeChecks : Guarantee → FieldChecks
-guaranteeChecks g = record {
+abbrev pub guaranteeChecks : ℕ → Guarantee → FieldChecks
+guaranteeChecks limit g = record {
   amount = amountAllowed (g .amount);
   codes = providerKnown (g .provider);
   steps = partyStepAllowed (g .provider);
   currency = currencyAllowed (g .currency);
-  ranges = daysAllowed (g .residual) && daysAllowed (g .original);
+  ranges = daysAllowed limit (g .residual) && daysAllowed limit (g .original);
   maturity = leb (g .residual) (g .original);
   conditions = conditionAllowed (g .lawful) && conditionAllowed (g .direct) && conditionAllowed (g .«not_in_rating»);
 }
 
 unfoldable pub guaranteeTests : Guarantee → List (Test ℕ)
-guaranteeTests g = fieldTests (guaranteeChecks g)
+guaranteeTests g = fieldTests (guaranteeChecks daysLimit g)
 
 -- the first that is met, or 0
 unfoldable pub guaranteeRefusal : Guarantee → ℕ

@@ -15,9 +15,14 @@ amountAllowed amount = leb amount amountLimit
 abbrev pub currencyAllowed : ℕ → Bool
 currencyAllowed currency = within 1 999 currency
 
--- "Days of life or cover are 1 to 36,000": issue lives, the residual term of a deal, both terms of an item
-abbrev pub daysAllowed : ℕ → Bool
-daysAllowed days = within 1 36000 days
+-- "Raise the limit of issue life and of all terms to 100,000" (02: L11)
+abbrev pub daysLimit : ℕ
+daysLimit = 100000
+
+-- "Days of life or cover are 1 to" a limit: issue lives, the residual term of a deal, both terms of an item. What asks for days is said of
+-- any limit, so that it can be said too of the one before (crates/earlier)
+abbrev pub daysAllowed : ℕ → ℕ → Bool
+daysAllowed limit days = within 1 limit days
 
 -- "revaluation interval, 1 to 250 business days"
 abbrev pub intervalAllowed : ℕ → Bool

@@ -5,7 +5,7 @@ use mathlib.Core.List.{List}
 use Rattle.base.specs.FirstMet.{Test, firstMet}
 use Rattle.base.specs.Range.{within}
 use Rattle.tables.specs.Kinds.{repoStyle, securedLending}
-use Rattle.deal.specs.Ranges.{amountAllowed, currencyAllowed, intervalAllowed, daysAllowed}
+use Rattle.deal.specs.Ranges.{amountAllowed, currencyAllowed, daysAllowed, daysLimit, intervalAllowed}
 use Rattle.deal.specs.Parties.{counterpartyKnown, partyStepAllowed}
 use Rattle.deal.specs.Assets.{goodsKnown, assetStepAllowed, lifeAllowed}
 use Rattle.deal.specs.Checks.{fieldTests}
@@ -16,20 +16,21 @@ use Rattle.deal.specs.declared.terms.Terms.{Terms}
 abbrev pub kindKnown : ℕ → Bool
 kindKnown kind = within repoStyle securedLending kind
 
--- what opening asks of each field. "(a loan lends cash)" explains an entry and refuses nothing; 7 and 8 are asked of items alone
-abbrev pub termsChecks : Terms → FieldChecks
-termsChecks t = record {
+-- what opening asks of each field, under a limit of days. "(a loan lends cash)" explains an entry and refuses nothing; 7 and 8 are asked of
+-- items alone
+abbrev pub termsChecks : ℕ → Terms → FieldChecks
+termsChecks limit t = record {
   amount = amountAllowed (t .amount);
   codes = counterpartyKnown (t .counterparty) && kindKnown (t .kind) && goodsKnown (t .lent);
   steps = partyStepAllowed (t .counterparty) && assetStepAllowed (t .lent);
   currency = currencyAllowed (t .currency);
-  ranges = intervalAllowed (t .interval) && daysAllowed (t .residual) && lifeAllowed (t .lent);
+  ranges = intervalAllowed (t .interval) && daysAllowed limit (t .residual) && lifeAllowed limit (t .lent);
   maturity = true;
   conditions = true;
 }
 
 unfoldable pub termsTests : Terms → List (Test ℕ)
-termsTests t = fieldTests (termsChecks t)
+termsTests t = fieldTests (termsChecks daysLimit t)
 
 -- the answer to opening; the deal it gives is `openedDeal` (specs/Opening)
 unfoldable pub termsRefusal : Terms → ℕ

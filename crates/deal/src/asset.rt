@@ -1,6 +1,7 @@
 // Goods that are lent or pledged.
 ghost use mathlib.Core.Path.{_≡_};
 ghost use Rattle.deal.specs.Assets.{goodsKnown, isDebt, assetStepAllowed, lifeAllowed};
+ghost use Rattle.deal.specs.Ranges.{daysLimit};
 use crate::ranges::days_allowed;
 use crate::ranges::step_allowed;
 use base::within;
@@ -40,7 +41,7 @@ impl Asset {
     }
 
     pub fn life_allowed(self) -> bool
-        ensures { λ r. ⌜ r ≡ lifeAllowed self ⌝ }
+        ensures { λ r. ⌜ r ≡ lifeAllowed daysLimit self ⌝ }
     {
         if is_debt(self.goods) {
             return days_allowed(self.life);

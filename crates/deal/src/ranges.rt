@@ -1,12 +1,10 @@
 // The ranges of the fields that deals and items share.
 ghost use mathlib.Core.Path.{_≡_};
-ghost use Rattle.deal.specs.Ranges.{amountAllowed, currencyAllowed, daysAllowed, intervalAllowed, stepAllowed, conditionAllowed};
+ghost use Rattle.deal.specs.Ranges.{amountAllowed, currencyAllowed, daysAllowed, daysLimit, intervalAllowed, stepAllowed, conditionAllowed};
 use crate::deal::Deal;
 use base::within;
 
 const LAST_CURRENCY: u64 = 999;
-
-const LONGEST: u64 = 36_000;
 
 const LONGEST_INTERVAL: u64 = 250;
 
@@ -28,9 +26,9 @@ pub fn currency_allowed(currency: u64) -> bool
 
 // Days of life or cover.
 pub fn days_allowed(days: u64) -> bool
-    ensures { λ r. ⌜ r ≡ daysAllowed days ⌝ }
+    ensures { λ r. ⌜ r ≡ daysAllowed daysLimit days ⌝ }
 {
-    within(1, LONGEST, days)
+    within(1, Deal::DAYS_LIMIT, days)
 }
 
 // Business days between revaluations.

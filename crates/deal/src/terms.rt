@@ -4,7 +4,7 @@ ghost use mathlib.Core.Path.{_≡_};
 ghost use Rattle.deal.specs.Answers.{answerNumber};
 ghost use Rattle.deal.specs.Assets.{assetStepAllowed, goodsKnown, lifeAllowed};
 ghost use Rattle.deal.specs.Parties.{counterpartyKnown, partyStepAllowed};
-ghost use Rattle.deal.specs.Ranges.{daysAllowed, intervalAllowed};
+ghost use Rattle.deal.specs.Ranges.{daysAllowed, daysLimit, intervalAllowed};
 ghost use Rattle.deal.specs.Terms.{kindKnown, termsRefusal};
 use crate::answer::Answer;
 use crate::asset::Asset;
@@ -71,7 +71,7 @@ impl Terms {
 
     // Interval, term and issue life.
     fn days_in_range(self) -> bool
-        ensures { λ r. ⌜ r ≡ (intervalAllowed (self .interval) && daysAllowed (self .residual) && lifeAllowed (self .lent)) ⌝ }
+        ensures { λ r. ⌜ r ≡ (intervalAllowed (self .interval) && daysAllowed daysLimit (self .residual) && lifeAllowed daysLimit (self .lent)) ⌝ }
     {
         let lent = self.lent;
         interval_allowed(self.interval) & days_allowed(self.residual) & lent.life_allowed()

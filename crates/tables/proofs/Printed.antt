@@ -11,7 +11,7 @@ use Rattle.tables.specs.Weights.{stepColumn, tableWeight, providerWeight
 
 -- at both ends of each band
 abbrev cells : ℕ → ℕ → List ℕ
-cells goods step = map (haircut goods step) (1 ∷ 360 ∷ 361 ∷ 1800 ∷ 1801 ∷ 36000 ∷ [])
+cells goods step = map (haircut goods step) (1 ∷ 360 ∷ 361 ∷ 1800 ∷ 1801 ∷ 100000 ∷ [])
 
 abbrev bands : ℕ → ℕ → ℕ → List ℕ
 bands a b c = a ∷ a ∷ b ∷ b ∷ c ∷ c ∷ []

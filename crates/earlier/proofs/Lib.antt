@@ -1,0 +1,4 @@
+pub mod Fields
+pub mod Deals
+pub mod Books
+pub mod Now
