@@ -22,6 +22,7 @@ use Rattle.deal.specs.Fields.{collateralIn, guaranteeIn, termsIn}
 use Rattle.deal.specs.Guarantees.{appendGuarantee, guaranteeListAllowed, guaranteeListRefusal, guaranteeListTests, guaranteeRefusal, guaranteeTests}
 use Rattle.deal.specs.Records.{accepted, dealOf, dealWith, recordAllowed}
 use Rattle.deal.specs.Parties.{partyStepAllowed}
+use Rattle.deal.specs.Ranges.{daysLimit}
 use Rattle.deal.specs.Terms.{termsChecks, termsRefusal, termsTests}
 use Rattle.deal.specs.declared.terms.Terms.{Terms}
 use Rattle.deal.specs.declared.collateral.Collateral.{Collateral}

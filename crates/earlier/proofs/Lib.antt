@@ -2,3 +2,4 @@ pub mod Fields
 pub mod Deals
 pub mod Books
 pub mod Now
+pub mod Examples
