@@ -1,7 +1,9 @@
 //! Opening a deal, adding to it, and the test of a whole record
-//! (01: The four operations).
+//! (01: The four operations; 02: L11).
 
-use crate::record::{place, Collateral, Guarantee, Record, Terms, AMOUNT_LIMIT, LIST_LIMIT};
+use crate::record::{
+    place, Collateral, Guarantee, Record, Terms, AMOUNT_LIMIT, DAYS_LIMIT, LIST_LIMIT,
+};
 use crate::{refusal, tables};
 
 /// Opens a deal with empty lists, or gives the refusal.
@@ -131,8 +133,9 @@ fn is_step(step: u64, zero_due: bool) -> bool {
     step <= if zero_due { 0 } else { 6 }
 }
 
+/// Whether the days can be a term, or the issue life of debt.
 fn is_term(days: u64) -> bool {
-    (1..=36_000).contains(&days)
+    (1..=DAYS_LIMIT).contains(&days)
 }
 
 fn ensure(met: bool, refusal: u64) -> Result<(), u64> {

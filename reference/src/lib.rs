@@ -1,6 +1,7 @@
-//! A second implementation of the relief calculator of document 01, written
-//! from the paper alone: exposure after collateral (E*), grounds for protection
-//! left out, and the risk-weighted amount, for a book of deals or for one deal.
+//! A second implementation of the relief calculator of document 01, with
+//! request L11 of document 02, written from the papers alone: exposure after
+//! collateral (E*), grounds for protection left out, and the risk-weighted
+//! amount, for a book of deals or for one deal.
 //!
 //! No function panics or overflows, whatever the input: the numbers of a record
 //! are tested before any arithmetic is done on them, and the arithmetic on

@@ -57,9 +57,23 @@ mod tests {
 
     #[test]
     fn terms_beyond_five_years_count_as_five_years() {
-        assert_eq!(left(1_800, 1_800, 36_000), Ok(1_000_000));
-        assert_eq!(left(35_999, 36_000, 36_000), Ok(1_000_000));
-        assert_eq!(left(1_799, 1_800, 36_000), Ok(999_415));
+        for longest in [36_000, 36_001, 100_000] {
+            assert_eq!(left(1_800, 1_800, longest), Ok(1_000_000));
+            assert_eq!(left(longest - 1, longest, longest), Ok(1_000_000));
+            assert_eq!(left(1_799, 1_800, longest), Ok(999_415));
+            assert_eq!(left(91, longest, longest), Ok(584));
+            assert_eq!(left(90, longest, longest), Err(26));
+            assert_eq!(left(90, 359, longest), Err(25));
+        }
         assert_eq!(left(91, 360, 92), Ok(500_000));
+    }
+
+    #[test]
+    fn never_overflows() {
+        assert_eq!(left(91, u64::MAX, u64::MAX), Ok(584));
+        assert_eq!(left(u64::MAX - 1, u64::MAX, u64::MAX), Ok(1_000_000));
+        assert_eq!(left(0, u64::MAX, u64::MAX), Err(26));
+        assert_eq!(left(0, 0, 0), Ok(1_000_000));
+        assert_eq!(left(0, 0, 1), Err(25));
     }
 }

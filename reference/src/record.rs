@@ -5,6 +5,10 @@
 pub const AMOUNT_LIMIT: u64 = 1_000_000_000_000;
 /// Places in each list of a record.
 pub const LIST_LIMIT: usize = 16;
+/// Longest issue life and longest term, in days (02: L11). It bounds no
+/// arithmetic: terms are capped at five years before any is done on them, and
+/// lives are only compared.
+pub(crate) const DAYS_LIMIT: u64 = 100_000;
 
 /// The terms of the exposure itself.
 #[derive(Clone, Copy, Debug, Default, PartialEq, Eq)]

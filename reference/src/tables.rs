@@ -137,12 +137,14 @@ mod tests {
             (1, 1_800, [20_000, 40_000, 80_000]),
             (1, 1_801, [40_000, 80_000, 160_000]),
             (1, 36_000, [40_000, 80_000, 160_000]),
+            (1, 100_000, [40_000, 80_000, 160_000]),
             (2, 1, [10_000, 20_000, 40_000]),
             (3, 360, [10_000, 20_000, 40_000]),
             (2, 361, [30_000, 60_000, 120_000]),
             (3, 1_800, [30_000, 60_000, 120_000]),
             (2, 1_801, [60_000, 120_000, 240_000]),
             (3, 36_000, [60_000, 120_000, 240_000]),
+            (3, 100_000, [60_000, 120_000, 240_000]),
         ];
         for (step, life, [sovereign, other, securitisation]) in printed {
             let haircut = |goods| collateral_haircut(goods, step, life, false);
@@ -178,7 +180,7 @@ mod tests {
             Some(150_000)
         );
         assert_eq!(
-            collateral_haircut(SOVEREIGN_DEBT, 4, 36_000, false),
+            collateral_haircut(SOVEREIGN_DEBT, 4, 100_000, false),
             Some(150_000)
         );
         assert_eq!(
@@ -190,6 +192,10 @@ mod tests {
         assert_eq!(collateral_haircut(BANK_DEBT, 0, 360, true), Some(20_000));
         assert_eq!(collateral_haircut(BANK_DEBT, 0, 361, true), Some(60_000));
         assert_eq!(collateral_haircut(BANK_DEBT, 0, 1_801, true), Some(120_000));
+        assert_eq!(
+            collateral_haircut(BANK_DEBT, 0, 100_000, true),
+            Some(120_000)
+        );
     }
 
     #[test]

@@ -181,7 +181,7 @@ fn refusal_11_comes_before_the_operations_own() {
 
 #[test]
 fn thirteen_digits_reach_the_operation_uncut() {
-    // 2^32 + 1 = 4294967297 and 2^40 + 3 would pass if cut to fewer bits.
+    // 2^17 + 1, 2^32 + 1 and 2^40 + 1 would pass if cut to fewer bits.
     for (place, refusal) in [
         (1, 2),
         (2, 3),
@@ -197,7 +197,7 @@ fn thirteen_digits_reach_the_operation_uncut() {
             4_294_967_297,
             4_294_967_296,
             1_099_511_627_777,
-            65_537,
+            131_073,
             9_999_999_999_999,
         ] {
             let mut fields = terms_fields(&TERMS);

@@ -182,20 +182,20 @@ fn the_largest_accepted_numbers() {
         amount: 1_000_000_000_000,
         step: 6,
         interval: 250,
-        residual: 36_000,
+        residual: 100_000,
         lent_goods: 8,
         ..TERMS
     };
     let cash = Collateral {
         amount: 1_000_000_000_000,
-        residual: 36_000,
-        original: 36_000,
+        residual: 100_000,
+        original: 100_000,
         ..CASH
     };
     let guarantee = Guarantee {
         amount: 1_000_000_000_000,
-        residual: 36_000,
-        original: 36_000,
+        residual: 100_000,
+        original: 100_000,
         ..GUARANTEE
     };
     let unprotected = report(&deal(terms, &[], &[]));

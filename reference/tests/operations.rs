@@ -48,6 +48,13 @@ fn changed<const N: usize>(
     fields
 }
 
+fn assert_opening(sound: &Terms, edges: Edges) {
+    for edge in edges {
+        let terms = Terms::from(changed(terms_fields(sound), edge));
+        assert_eq!(opening(terms), edge.2, "{edge:?} {sound:?}");
+    }
+}
+
 #[test]
 fn edges_of_opening_a_loan() {
     let edges: Edges = &[
@@ -71,14 +78,6 @@ fn edges_of_opening_a_loan() {
         (4, 1, 0),
         (4, 3, 0),
         (4, 4, 2),
-        (5, 0, 5),
-        (5, 1, 0),
-        (5, 250, 0),
-        (5, 251, 5),
-        (6, 0, 5),
-        (6, 1, 0),
-        (6, 36_000, 0),
-        (6, 36_001, 5),
         (7, 0, 2),
         (7, 2, 5),
         (7, 7, 0),
@@ -88,10 +87,23 @@ fn edges_of_opening_a_loan() {
         (8, 1, 3),
         (9, 1, 5),
     ];
-    for edge in edges {
-        let terms = Terms::from(changed(terms_fields(&TERMS), edge));
-        assert_eq!(opening(terms), edge.2, "{edge:?}");
-    }
+    assert_opening(&TERMS, edges);
+}
+
+#[test]
+fn edges_of_interval_and_term() {
+    let edges: Edges = &[
+        (5, 0, 5),
+        (5, 1, 0),
+        (5, 250, 0),
+        (5, 251, 5),
+        (6, 0, 5),
+        (6, 1, 0),
+        (6, 100_000, 0),
+        (6, 100_001, 5),
+        (6, u64::MAX, 5),
+    ];
+    assert_opening(&TERMS, edges);
 }
 
 #[test]
@@ -108,13 +120,11 @@ fn edges_of_opening_with_debt_lent() {
             (8, 6, 0),
             (8, 7, 3),
             (9, 0, 5),
-            (9, 36_000, 0),
-            (9, 36_001, 5),
+            (9, 100_000, 0),
+            (9, 100_001, 5),
+            (9, u64::MAX, 5),
         ];
-        for edge in edges {
-            let terms = Terms::from(changed(terms_fields(&bond), edge));
-            assert_eq!(opening(terms), edge.2, "{lent_goods} {edge:?}");
-        }
+        assert_opening(&bond, edges);
     }
 }
 
@@ -182,12 +192,12 @@ fn edges_of_adding_collateral() {
         (5, 0, 5),
         (5, 1, 0),
         (5, 1_801, 7),
-        (5, 36_000, 7),
-        (5, 36_001, 5),
+        (5, 100_000, 7),
+        (5, 100_001, 5),
         (6, 0, 5),
         (6, 1_799, 7),
-        (6, 36_000, 0),
-        (6, 36_001, 5),
+        (6, 100_000, 0),
+        (6, 100_001, 5),
         (7, 0, 0),
         (7, 2, 8),
         (8, 0, 0),
@@ -202,11 +212,15 @@ fn edges_of_adding_collateral() {
         let item = Collateral::from(changed(collateral_fields(&CASH), edge));
         assert_eq!(adding_collateral(item), edge.2, "{edge:?}");
     }
+}
+
+#[test]
+fn edges_of_adding_debt() {
     for goods in 2..=6 {
         let bond = Collateral {
             goods,
             step: 6,
-            life: 36_000,
+            life: 100_000,
             ..CASH
         };
         assert_eq!(adding_collateral(bond), 0);
@@ -214,7 +228,7 @@ fn edges_of_adding_collateral() {
         assert_eq!(adding_collateral(Collateral { life: 0, ..bond }), 5);
         assert_eq!(
             adding_collateral(Collateral {
-                life: 36_001,
+                life: 100_001,
                 ..bond
             }),
             5
@@ -265,11 +279,12 @@ fn edges_of_adding_a_guarantee() {
         (4, 0, 5),
         (4, 1, 0),
         (4, 1_801, 7),
-        (4, 36_001, 5),
+        (4, 100_000, 7),
+        (4, 100_001, 5),
         (5, 0, 5),
         (5, 1_799, 7),
-        (5, 36_000, 0),
-        (5, 36_001, 5),
+        (5, 100_000, 0),
+        (5, 100_001, 5),
         (6, 0, 0),
         (6, 2, 8),
         (7, 0, 0),

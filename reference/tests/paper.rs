@@ -200,7 +200,7 @@ fn misreadings_are_shut_out() {
     assert_eq!(outcome_of_collateral(repo, bond), Valued(scaled_apart));
     // A bond that outlives the deal does not mend a pledge that ends before it.
     let long_bond = Collateral {
-        life: 36_000,
+        life: 100_000,
         residual: 90,
         ..bond
     };

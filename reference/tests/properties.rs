@@ -261,10 +261,11 @@ fn values_are_those_of_the_steps() {
 
 /// Any number, small ones and sound ones among them.
 fn wild(random: &mut Random) -> u64 {
-    match random.within(0, 3) {
+    match random.within(0, 4) {
         0 => random.any(),
         1 => random.within(0, 20),
-        2 => random.pick(&[0, 1, 16, 17, 978, 36_000, u64::MAX, 1 << 32, 1 << 63]),
+        2 => random.pick(&[0, 1, 16, 17, 978, u64::MAX, 1 << 32, 1 << 63]),
+        3 => random.pick(&[35_999, 36_000, 36_001, 99_999, 100_000, 100_001]),
         _ => random.days(),
     }
 }
