@@ -88,6 +88,28 @@ not-added :
 unfolding built
 not-added = (refl, refl, refl, refl, refl, refl, refl)
 
+-- 100,000 days in each number that holds days (02: L11): opened, added to both lists and read back whole, and reported. Goods lent and
+-- pledged at 40,000 scaled to 56,569: 1,056,569 less 377,372 is E*, of which the guarantee covers 200,000
+abbrev longest : List ℕ
+longest =
+    1000000 ∷ 3 ∷ 0 ∷ 978 ∷ 3 ∷ 1 ∷ 100000 ∷ 2 ∷ 1 ∷ 100000
+    ∷ 1 ∷ 400000 ∷ 2 ∷ 1 ∷ 100000 ∷ 978 ∷ 100000 ∷ 100000 ∷ 1 ∷ 1 ∷ 1 ∷ 0 ∷ (replicate 165 0
+    ++ 1 ∷ 200000 ∷ 1 ∷ 1 ∷ 978 ∷ 100000 ∷ 100000 ∷ 1 ∷ 1 ∷ 1 ∷ replicate 135 0)
+
+longest-built :
+    numbersWithGuarantee
+    (numbersWithCollateral (openedNumbers (1000000 ∷ 3 ∷ 0 ∷ 978 ∷ 3 ∷ 1 ∷ 100000 ∷ 2 ∷ 1 ∷ 100000 ∷ [])) (400000 ∷ 2 ∷ 1 ∷ 100000 ∷ 978 ∷ 100000 ∷ 100000 ∷ 1 ∷ 1 ∷ 1 ∷ 0 ∷ []))
+    (200000 ∷ 1 ∷ 1 ∷ 978 ∷ 100000 ∷ 100000 ∷ 1 ∷ 1 ∷ 1 ∷ [])
+    ≡ longest
+unfolding built
+longest-built = refl
+
+longest-reported :
+    (reportingRefusal longest 83 ≡ 0)
+    × (listAfter longest (replicate 83 7) ≡ 679197 ∷ 377372 ∷ 0 ∷ (replicate 30 0 ++ 200000 ∷ 0 ∷ 200000 ∷ (replicate 45 0 ++ 479197 ∷ 479197 ∷ [])))
+unfolding computed reportingRefusal listAfter reportNumbers reportIn dealIn slices inOrder answerNumber if_then_else_
+longest-reported = (refl, refl)
+
 -- so many numbers, counted up
 unfoldable countedUp : ℕ → ℕ → List ℕ
 countedUp first zero = []

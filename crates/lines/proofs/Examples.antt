@@ -144,6 +144,25 @@ fields-in-place :
 unfolding lineOf dealLine collateralLine guaranteeLine ifRead fieldsOf withNumber andThen isEnd fieldOf numberOf numberRead numberAllowed digitsOf decimalFrom within if_then_else_
 fields-in-place = refl
 
+-- 100,000 days in each field that holds days (02: L11), whole
+abbrev longest : List Line
+longest =
+    DealLine (termsIn (1 ∷ 2 ∷ 3 ∷ 4 ∷ 5 ∷ 6 ∷ 100000 ∷ 7 ∷ 8 ∷ 100000 ∷ []))
+    ∷ CollateralLine (collateralIn (1 ∷ 2 ∷ 3 ∷ 100000 ∷ 4 ∷ 100000 ∷ 100000 ∷ 5 ∷ 6 ∷ 7 ∷ 8 ∷ []))
+    ∷ GuaranteeLine (guaranteeIn (1 ∷ 2 ∷ 3 ∷ 4 ∷ 100000 ∷ 100000 ∷ 5 ∷ 6 ∷ 7 ∷ []))
+    ∷ []
+
+longest-read :
+    map lineOf (
+    bytes "D\t1\t2\t3\t4\t5\t6\t100000\t7\t8\t100000\n"
+    ∷ bytes "C\t1\t2\t3\t100000\t4\t100000\t100000\t5\t6\t7\t8\n"
+    ∷ bytes "G\t1\t2\t3\t4\t100000\t100000\t5\t6\t7\n"
+    ∷ []
+    )
+    ≡ longest
+unfolding lineOf dealLine collateralLine guaranteeLine ifRead fieldsOf withNumber andThen isEnd fieldOf numberOf numberRead numberAllowed digitsOf decimalFrom within if_then_else_
+longest-read = refl
+
 -- of all bytes the tab alone parts fields, and the line feed alone ends them, with nothing before it
 unfoldable isNumber : Number → Bool
 isNumber NoNumber = false
