@@ -361,6 +361,72 @@ static void built(void)
   IS(lent.mark, MARK);
 }
 
+/* Days: a life or term of 100,000 stands whole in each of its fields, one of
+ * 100,001 is refused by 5. */
+
+#define LONGEST 100000
+
+static void refused_days(struct hadlephoga_deal *deal, struct hadlephoga_collateral pledge,
+                         struct hadlephoga_guarantee guarantee)
+{
+  struct hadlephoga_terms terms = deal->terms;
+  uint64_t *of_terms[] = {&terms.residual_term, &terms.lent_issue_life};
+  uint64_t *of_pledge[] = {&pledge.issue_life, &pledge.residual_term, &pledge.original_term};
+  uint64_t *of_guarantee[] = {&guarantee.residual_term, &guarantee.original_term};
+  struct hadlephoga_deal refused;
+  size_t i;
+
+  for (i = 0; i < sizeof of_terms / sizeof of_terms[0]; i++) {
+    *of_terms[i] = LONGEST + 1;
+    IS(hadlephoga_open_with(&terms, &refused), 5);
+    *of_terms[i] = LONGEST;
+  }
+  for (i = 0; i < sizeof of_pledge / sizeof of_pledge[0]; i++) {
+    *of_pledge[i] = LONGEST + 1;
+    IS(hadlephoga_add_collateral_to(deal, &pledge), 5);
+    *of_pledge[i] = LONGEST;
+  }
+  for (i = 0; i < sizeof of_guarantee / sizeof of_guarantee[0]; i++) {
+    *of_guarantee[i] = LONGEST + 1;
+    IS(hadlephoga_add_guarantee_to(deal, &guarantee), 5);
+    *of_guarantee[i] = LONGEST;
+  }
+}
+
+static void longest_days(void)
+{
+  struct hadlephoga_deal deal = deal_of_all_grounds(400000);
+  struct hadlephoga_terms terms = deal.terms;
+  struct hadlephoga_collateral pledge = paper(10000);
+  struct hadlephoga_guarantee guarantee = promise(20000);
+  struct marked_report marked;
+  size_t i;
+
+  terms.residual_term = terms.lent_issue_life = LONGEST;
+  pledge.issue_life = pledge.residual_term = pledge.original_term = LONGEST;
+  guarantee.residual_term = guarantee.original_term = LONGEST;
+  IS(hadlephoga_open_with(&terms, &deal), 0);
+  refused_days(&deal, pledge, guarantee);
+  for (i = 0; i < HADLEPHOGA_ITEMS; i++) {
+    IS(hadlephoga_add_collateral_to(&deal, &pledge), 0);
+    IS(hadlephoga_add_guarantee_to(&deal, &guarantee), 0);
+  }
+  IS(deal.terms.residual_term, LONGEST);
+  IS(deal.terms.lent_issue_life, LONGEST);
+  for (i = 0; i < HADLEPHOGA_ITEMS; i++) {
+    IS(deal.collateral[i].issue_life, LONGEST);
+    IS(deal.collateral[i].residual_term, LONGEST);
+    IS(deal.collateral[i].original_term, LONGEST);
+    IS(deal.guarantees[i].residual_term, LONGEST);
+    IS(deal.guarantees[i].original_term, LONGEST);
+  }
+  reported(&deal, &marked);
+  /* Raised by 120,000 millionths, less 16 x 8,800. */
+  IS(marked.report.exposure, 979200);
+  /* (320,000 x 50 + 659,200 x 150) / 100. */
+  IS(marked.report.weighted_amount, 1148800);
+}
+
 /* Books */
 
 static const char two_deals[] =
@@ -427,6 +493,7 @@ int main(void)
   places_of_answer();
   meanings();
   built();
+  longest_days();
   answers_of_two_deals();
   longest_book();
   return 0;

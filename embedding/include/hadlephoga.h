@@ -119,7 +119,7 @@ struct hadlephoga_answer {
 };
 
 /* An amount is 0 to 1,000,000,000,000; a step 1 to 6, or 0 unrated; a currency
- * its ISO 4217 number, 1 to 999; a term or life 1 to 36,000 days, an item's
+ * its ISO 4217 number, 1 to 999; a term or life 1 to 100,000 days, an item's
  * residual term not above its original one; a condition 1 met or 0 not met. */
 
 /* Goods: 1 cash, 2 sovereign debt, 3 other issuers' debt, 4 bank debt, 5

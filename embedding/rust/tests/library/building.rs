@@ -65,7 +65,7 @@ fn refused_guarantees() -> [(u64, Guarantee); 7] {
     items[1].1.class = 4;
     items[2].1.step = 7;
     items[3].1.currency = 1000;
-    items[4].1.original_term = 36_001;
+    items[4].1.original_term = 100_001;
     items[5].1.residual_term = GUARANTEE.original_term + 1;
     items[6].1.direct = 2;
     items

@@ -3,6 +3,7 @@
 
 mod books;
 mod building;
+mod days;
 mod figures;
 mod grounds;
 mod records;

@@ -216,7 +216,7 @@ fn fields_just_outside_their_ranges() {
             ..LOAN
         },
         Terms {
-            residual_term: 36_001,
+            residual_term: 100_001,
             ..LOAN
         },
         Terms {

@@ -1,0 +1,309 @@
+//! Days of life and cover, from both sides of their limit, in each of the seven
+//! fields that hold them and in every place of both lists.
+
+use crate::sample::{CASH, GUARANTEE, LOAN};
+use hadlephoga::{
+    add_collateral, add_collateral_numbers, add_guarantee, add_guarantee_numbers, answer_book,
+    open, open_numbers, report, report_numbers, Collateral, Cover, Guarantee, Outcome, Record,
+    Refusal, Report, Terms, ITEMS, RECORD_LENGTH, REPORT_LENGTH,
+};
+
+const LONGEST: u64 = 100_000;
+/// Of this limit, of the earlier one, and of 16 bits.
+const EDGES: [u64; 8] = [
+    35_999, 36_000, 36_001, 65_535, 65_536, 65_537, 99_999, LONGEST,
+];
+/// Above the limit; cut to 17 or to 32 bits the middle ones would be accepted.
+const ABOVE: [u64; 4] = [LONGEST + 1, (1 << 17) + 1800, (1 << 32) + 1800, u64::MAX];
+
+/// Where the fields stand in terms and in items, and these in a record.
+const TERMS_DAYS: [usize; 2] = [6, 9];
+const COLLATERAL_DAYS: [usize; 3] = [3, 5, 6];
+const GUARANTEE_DAYS: [usize; 2] = [4, 5];
+const COLLATERAL_START: usize = Terms::LENGTH + 1;
+const GUARANTEE_START: usize = COLLATERAL_START + ITEMS * Collateral::LENGTH + 1;
+
+/// A repo that lends state stock. n is 6 + 5 - 1 = 10, so that table haircuts
+/// stay as they are.
+const REPO: Terms = Terms {
+    kind: 1,
+    interval: 6,
+    lent_type: 2,
+    lent_step: 1,
+    lent_issue_life: 1801,
+    ..LOAN
+};
+const STOCK: Collateral = Collateral {
+    amount: 50_000,
+    goods: 2,
+    step: 1,
+    issue_life: 1801,
+    original_term: LONGEST,
+    ..CASH
+};
+const PROMISE: Guarantee = Guarantee {
+    amount: 10_000,
+    original_term: LONGEST,
+    ..GUARANTEE
+};
+
+/// Days above 1,800 are all alike, so this is the report of the full repo
+/// whatever they are: 1,040,000 less 48,000 for each stock, and 10,000 of each
+/// guarantee at weight 0.
+fn reported() -> Report {
+    Report {
+        exposure: 272_000,
+        collateral: [Outcome::Valued(48_000); ITEMS],
+        guarantees: [Cover {
+            outcome: Outcome::Valued(10_000),
+            portion: 10_000,
+        }; ITEMS],
+        rest: 112_000,
+        weighted_amount: 112_000,
+    }
+}
+
+/// Every place of a record that holds days.
+fn places() -> Vec<usize> {
+    let items = |start: usize, width: usize, days: &'static [usize]| {
+        (0..ITEMS).flat_map(move |item| days.iter().map(move |at| start + item * width + at))
+    };
+    let collateral = items(COLLATERAL_START, Collateral::LENGTH, &COLLATERAL_DAYS);
+    let guarantees = items(GUARANTEE_START, Guarantee::LENGTH, &GUARANTEE_DAYS);
+    let places = TERMS_DAYS.into_iter().chain(collateral).chain(guarantees);
+    places.collect()
+}
+
+/// No field of the wrapper is narrower than a number of the library.
+#[test]
+fn every_field_has_64_bits() {
+    assert_eq!(size_of::<Terms>(), Terms::LENGTH * 8);
+    assert_eq!(size_of::<Collateral>(), Collateral::LENGTH * 8);
+    assert_eq!(size_of::<Guarantee>(), Guarantee::LENGTH * 8);
+    let largest = [u64::MAX; RECORD_LENGTH];
+    assert_eq!(Record::from_numbers(&largest).to_numbers(), largest);
+}
+
+#[test]
+fn longest_everywhere() {
+    let terms = Terms {
+        residual_term: LONGEST,
+        lent_issue_life: LONGEST,
+        ..REPO
+    };
+    let stock = Collateral {
+        issue_life: LONGEST,
+        residual_term: LONGEST,
+        ..STOCK
+    };
+    let promise = Guarantee {
+        residual_term: LONGEST,
+        ..PROMISE
+    };
+    let mut record = open(&terms).expect("accepted terms");
+    for _ in 0..ITEMS {
+        add_collateral(&mut record, &stock).expect("a free place");
+        add_guarantee(&mut record, &promise).expect("a free place");
+    }
+    assert_eq!(record, Record::new(terms, &[stock; 16], &[promise; 16]));
+    let numbers = record.to_numbers();
+    let longest = (0..RECORD_LENGTH).filter(|place| numbers[*place] == LONGEST);
+    assert_eq!(longest.collect::<Vec<_>>(), places());
+    assert_eq!(report(&record), Ok(reported()));
+}
+
+/// In one field at a time, of a record that is full.
+#[test]
+fn reporting() {
+    let full = Record::new(REPO, &[STOCK; ITEMS], &[PROMISE; ITEMS]).to_numbers();
+    assert_eq!(places().len(), 2 + ITEMS * 3 + ITEMS * 2);
+    for place in places() {
+        for days in EDGES {
+            let mut numbers = full;
+            numbers[place] = days;
+            let record = Record::from_numbers(&numbers);
+            assert_eq!(report(&record), Ok(reported()), "{days} in place {place}");
+        }
+        for days in ABOVE {
+            let mut numbers = full;
+            numbers[place] = days;
+            let mut report = [1; REPORT_LENGTH];
+            assert_eq!(
+                report_numbers(&numbers, &mut report),
+                40,
+                "{days} in place {place}"
+            );
+            assert_eq!(report, [0; REPORT_LENGTH]);
+        }
+    }
+}
+
+#[test]
+fn opening() {
+    for place in TERMS_DAYS {
+        let mut terms = REPO.to_numbers();
+        let mut record = [1; RECORD_LENGTH];
+        for days in EDGES {
+            terms[place] = days;
+            assert_eq!(open_numbers(&terms, &mut record), 0, "{days} in {place}");
+            assert_eq!(record[..Terms::LENGTH], terms);
+        }
+        for days in ABOVE {
+            terms[place] = days;
+            assert_eq!(open_numbers(&terms, &mut record), 5, "{days} in {place}");
+            assert_eq!(record, [0; RECORD_LENGTH]);
+        }
+    }
+}
+
+/// Adds an item with each of the days in each of these fields, to lists of every
+/// length; the item begins in this place of the record.
+fn adding<const WIDTH: usize>(
+    add: fn(&mut [u64], &[u64]) -> u64,
+    item: [u64; WIDTH],
+    fields: &[usize],
+    before: &Record,
+    start: usize,
+) {
+    for field in fields {
+        let mut item = item;
+        for days in EDGES {
+            let mut record = before.to_numbers();
+            item[*field] = days;
+            assert_eq!(add(&mut record, &item), 0, "{days} in {field}");
+            assert_eq!(record[start..start + WIDTH], item);
+        }
+        for days in ABOVE {
+            let mut record = before.to_numbers();
+            item[*field] = days;
+            assert_eq!(add(&mut record, &item), 5, "{days} in {field}");
+            assert_eq!(record, before.to_numbers());
+        }
+    }
+}
+
+#[test]
+fn adding_collateral() {
+    for count in 0..ITEMS {
+        let before = Record::new(REPO, &[STOCK; ITEMS][..count], &[PROMISE; ITEMS]);
+        let start = COLLATERAL_START + count * Collateral::LENGTH;
+        let item = STOCK.to_numbers();
+        adding(
+            add_collateral_numbers,
+            item,
+            &COLLATERAL_DAYS,
+            &before,
+            start,
+        );
+    }
+}
+
+#[test]
+fn adding_guarantees() {
+    for count in 0..ITEMS {
+        let before = Record::new(REPO, &[STOCK; ITEMS], &[PROMISE; ITEMS][..count]);
+        let start = GUARANTEE_START + count * Guarantee::LENGTH;
+        let item = PROMISE.to_numbers();
+        adding(add_guarantee_numbers, item, &GUARANTEE_DAYS, &before, start);
+    }
+}
+
+/// Cash, equity and gold have the life 0 and no other.
+#[test]
+fn goods_without_a_life() {
+    for goods in [1, 7, 8, 9] {
+        let terms = |lent_issue_life| Terms {
+            lent_type: goods,
+            lent_step: 0,
+            lent_issue_life,
+            ..REPO
+        };
+        let mut record = open(&terms(0)).expect("accepted terms");
+        let mut add = |issue_life| {
+            let item = Collateral {
+                goods,
+                step: 0,
+                issue_life,
+                ..STOCK
+            };
+            add_collateral(&mut record, &item)
+        };
+        assert_eq!(add(0), Ok(()));
+        for life in [1, 36_000, LONGEST, LONGEST + 1] {
+            assert_eq!(open(&terms(life)), Err(Refusal(5)));
+            assert_eq!(add(life), Err(Refusal(5)));
+        }
+    }
+}
+
+/// 5 comes before 7.
+#[test]
+fn residual_above_original() {
+    let mut record = open(&REPO).expect("accepted terms");
+    for (residual_term, original_term, refusal) in [
+        (LONGEST, LONGEST - 1, 7),
+        (LONGEST + 1, LONGEST, 5),
+        (LONGEST + 1, LONGEST + 1, 5),
+        (LONGEST - 1, LONGEST + 1, 5),
+    ] {
+        let stock = Collateral {
+            residual_term,
+            original_term,
+            ..STOCK
+        };
+        let promise = Guarantee {
+            residual_term,
+            original_term,
+            ..PROMISE
+        };
+        assert_eq!(add_collateral(&mut record, &stock), Err(Refusal(refusal)));
+        assert_eq!(add_guarantee(&mut record, &promise), Err(Refusal(refusal)));
+    }
+}
+
+/// A book of the repo with one stock and one guarantee, with these days in one
+/// field of one of its lines, the header being line 1.
+fn book(line: usize, field: usize, days: u64) -> Vec<u8> {
+    let mut lines = [
+        (b'D', REPO.to_numbers().to_vec()),
+        (b'C', STOCK.to_numbers().to_vec()),
+        (b'G', PROMISE.to_numbers().to_vec()),
+    ];
+    lines[line - 2].1[field] = days;
+    let mut book = b"CRM\t1\n".to_vec();
+    for (letter, fields) in lines {
+        book.push(letter);
+        book.extend(
+            fields
+                .iter()
+                .flat_map(|field| format!("\t{field}").into_bytes()),
+        );
+        book.push(b'\n');
+    }
+    book
+}
+
+#[test]
+fn books() {
+    let fields = [
+        (2, &TERMS_DAYS[..]),
+        (3, &COLLATERAL_DAYS),
+        (4, &GUARANTEE_DAYS),
+    ];
+    for (line, fields) in fields {
+        for field in fields {
+            let answered = |days| {
+                let mut results = [0; 4];
+                assert_eq!(answer_book(&book(line, *field, days), &mut results), Ok(1));
+                results
+            };
+            for days in EDGES {
+                // 1,040,000 - 48,000, not above the amount, of which 10,000 weigh 0.
+                assert_eq!(answered(days), [1, 0, 992_000, 982_000], "{days}");
+            }
+            for days in [LONGEST + 1, (1 << 17) + 1800, (1 << 32) + 1800] {
+                assert_eq!(answered(days), [1, 5, line as u64, 0], "{days}");
+            }
+        }
+    }
+}
