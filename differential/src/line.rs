@@ -14,6 +14,17 @@ impl Line {
         Line { letter, fields }
     }
 
+    /// The line of such a text; None where it cannot be read.
+    pub fn read(text: &[u8]) -> Option<Self> {
+        let text = std::str::from_utf8(text).ok()?.strip_suffix('\n')?;
+        let (letter, numbers) = text.split_once('\t')?;
+        let fields = numbers.split('\t').map(|field| field.parse().ok());
+        Some(Line {
+            letter: *letter.as_bytes().first()?,
+            fields: fields.collect::<Option<_>>()?,
+        })
+    }
+
     /// As it stands in a book, with its line feed.
     pub fn text(&self) -> Vec<u8> {
         let mut text = vec![self.letter];
@@ -46,7 +57,19 @@ mod tests {
 
     #[test]
     fn text_of_a_line() {
-        assert_eq!(Line::new(b'G', &[0, 12]).text(), b"G\t0\t12\n");
+        let text = b"G\t0\t12\n";
+        assert_eq!(Line::new(b'G', &[0, 12]).text(), text);
+        let read = Line::read(text).map(|line| (line.letter, line.fields));
+        assert_eq!(read, Some((b'G', vec![0, 12])));
+        for text in [
+            b"G\t1" as &[u8],
+            b"G\n",
+            b"\t1\n",
+            b"G\t1\t\n",
+            b"G\t\xff\n",
+        ] {
+            assert!(Line::read(text).is_none());
+        }
     }
 
     #[test]

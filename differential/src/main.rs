@@ -8,6 +8,7 @@ mod cells;
 mod compare;
 mod conformance;
 mod damage;
+mod days;
 mod deal;
 mod line;
 mod malformed;

@@ -4,6 +4,8 @@
 use hadlephoga::{Record, ITEMS, RECORD_LENGTH};
 
 use crate::compare::{around, differ, Difference, Lent};
+use crate::days;
+use crate::line::Line;
 use crate::random::Random;
 use crate::records::{self, changed, EDGES};
 use crate::sides::{reference_add, reference_open};
@@ -25,6 +27,7 @@ pub fn operations(random: &mut Random, tally: &mut Tally) -> Result<(), Differen
         tally,
     )?;
     tally.added_collateral.meet(&[refusal]);
+    days::meet(&mut tally.days_on_numbers, b'C', &item, refusal);
     let item = guarantee(random);
     let refusal = adding(
         random,
@@ -34,6 +37,7 @@ pub fn operations(random: &mut Random, tally: &mut Tally) -> Result<(), Differen
         tally,
     )?;
     tally.added_guarantees.meet(&[refusal]);
+    days::meet(&mut tally.days_on_numbers, b'G', &item, refusal);
     Ok(())
 }
 
@@ -65,6 +69,7 @@ fn opening(random: &mut Random, tally: &mut Tally) -> Result<(), Difference> {
         ));
     }
     tally.opened.meet(&[proved_refusal]);
+    days::meet(&mut tally.days_on_numbers, b'D', &terms, proved_refusal);
     Ok(())
 }
 
@@ -126,14 +131,19 @@ fn guarantee(random: &mut Random) -> Vec<u64> {
     damaged(random, b'G', item)
 }
 
-/// As they are, outside their ranges, any numbers, or too many or too few.
+/// As they are, with days at an edge, outside their ranges, any numbers, or too
+/// many or too few.
 fn damaged<const WIDTH: usize>(random: &mut Random, letter: u8, fields: [u64; WIDTH]) -> Vec<u64> {
     let mut fields = match random.below(20) {
-        0..=8 => fields,
-        9..=18 => changed(random, letter, &fields),
-        _ => std::array::from_fn(|_| random.pick(EDGES)),
-    }
-    .to_vec();
+        0..=5 => fields.to_vec(),
+        6..=9 => {
+            let mut line = Line::new(letter, &fields);
+            days::put_at_edge(random, &mut line);
+            line.fields
+        }
+        10..=18 => changed(random, letter, &fields).to_vec(),
+        _ => (0..WIDTH).map(|_| random.pick(EDGES)).collect(),
+    };
     if random.percent(5) {
         fields.resize(random.pick(&around(WIDTH)), 1);
     }
@@ -144,17 +154,23 @@ fn damaged<const WIDTH: usize>(random: &mut Random, letter: u8, fields: [u64; WI
 /// its record.
 pub fn built(record: &Record, tally: &mut Tally) -> Result<(), Difference> {
     let mut numbers = [u64::MAX; RECORD_LENGTH];
-    let mut refusals = vec![hadlephoga::open_numbers(
-        &record.terms.to_numbers(),
-        &mut numbers,
-    )];
+    let mut refusals = Vec::new();
+    let mut answered = |letter, fields: &[u64], refusal| {
+        days::meet(&mut tally.days_on_numbers, letter, fields, refusal);
+        refusals.push(refusal);
+    };
+    let terms = record.terms.to_numbers();
+    let refusal = hadlephoga::open_numbers(&terms, &mut numbers);
+    answered(b'D', &terms, refusal);
     for item in &record.collateral[..record.collateral_count as usize] {
         let item = item.to_numbers();
-        refusals.push(hadlephoga::add_collateral_numbers(&mut numbers, &item));
+        let refusal = hadlephoga::add_collateral_numbers(&mut numbers, &item);
+        answered(b'C', &item, refusal);
     }
     for item in &record.guarantees[..record.guarantee_count as usize] {
         let item = item.to_numbers();
-        refusals.push(hadlephoga::add_guarantee_numbers(&mut numbers, &item));
+        let refusal = hadlephoga::add_guarantee_numbers(&mut numbers, &item);
+        answered(b'G', &item, refusal);
     }
     tally.numbers += (refusals.len() + RECORD_LENGTH) as u64;
     let expected = record.to_numbers();
@@ -184,6 +200,7 @@ mod tests {
             &tally.opened,
             &tally.added_collateral,
             &tally.added_guarantees,
+            &tally.days_on_numbers,
         ] {
             assert_eq!(cells.met(), cells.all(), "{}", cells.title);
             assert_eq!(cells.unlisted().count(), 0);

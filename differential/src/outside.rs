@@ -1,5 +1,6 @@
 //! Values outside the range of a field, most of them just outside.
 
+use crate::days;
 use crate::line::Line;
 use crate::random::Random;
 use crate::values::{AMOUNT_LIMIT, DAYS_LIMIT};
@@ -49,7 +50,9 @@ fn beside(sort: Sort) -> &'static [u64] {
 }
 
 /// What a narrower width would cut off; each sum still has 13 digits at most.
-const WIDTHS: &[u64] = &[1 << 8, 1 << 16, 1 << 32, 1 << 40];
+/// Days may be accepted with 1 << 16 more, though not as what a cut leaves of
+/// them; with 1 << 17 more they are above the limit.
+const WIDTHS: &[u64] = &[1 << 8, 1 << 16, 1 << 17, 1 << 32, 1 << 40];
 
 /// Puts a field of a line outside its range; now and then more than one, so
 /// that the order of refusals counts.
@@ -59,11 +62,29 @@ pub fn put_outside(random: &mut Random, line: &mut Line) {
     }
 }
 
+fn sorts(letter: u8) -> &'static [Sort] {
+    match letter {
+        b'D' => DEAL,
+        b'C' => COLLATERAL,
+        _ => GUARANTEE,
+    }
+}
+
+/// The places of a line's fields that hold days of life or cover.
+pub fn fields_of_days(letter: u8) -> impl Iterator<Item = usize> {
+    let sorts = sorts(letter).iter().enumerate();
+    sorts.filter_map(|(place, sort)| matches!(sort, Term | Life).then_some(place))
+}
+
 fn put_one_outside(random: &mut Random, line: &mut Line) {
-    let (sorts, residual) = match line.letter {
-        b'D' => (DEAL, None),
-        b'C' => (COLLATERAL, Some(5)),
-        _ => (GUARANTEE, Some(4)),
+    if random.percent(10) {
+        return days::put(random, line, DAYS_LIMIT + 1);
+    }
+    let sorts = sorts(line.letter);
+    let residual = match line.letter {
+        b'D' => None,
+        b'C' => Some(5),
+        _ => Some(4),
     };
     if let Some(residual) = residual.filter(|_| random.percent(15)) {
         // A residual term above the original one that follows it.

@@ -98,6 +98,22 @@ pub fn reference_add<const WIDTH: usize, Item: From<[u64; WIDTH]>>(
     refusal
 }
 
+/// What opening answers to a line's fields, or adding to a deal without items,
+/// by the second implementation.
+pub fn reference_refusal(letter: u8, fields: &[u64]) -> u64 {
+    // A sovereign is lent no amount for a day.
+    const TERMS: [u64; Terms::LENGTH] = [0, 1, 0, 1, 1, 1, 1, 1, 0, 0];
+    let mut record = [0; RECORD_LENGTH];
+    if letter == b'D' {
+        return reference_open(fields, &mut record);
+    }
+    reference_open(&TERMS, &mut record);
+    match letter {
+        b'C' => reference_add(reference::add_collateral, &mut record, fields),
+        _ => reference_add(reference::add_guarantee, &mut record, fields),
+    }
+}
+
 fn to_reference(record: &Record) -> reference::Record {
     let terms = record.terms;
     reference::Record {

@@ -2,10 +2,11 @@
 
 use std::collections::BTreeMap;
 
-use hadlephoga::{Outcome, Record, Report};
+use hadlephoga::{Collateral, Cover, Guarantee, Outcome, Record, Report, Terms};
 
 use crate::cells::{Cell, Cells};
-use crate::line;
+use crate::days;
+use crate::line::{self, Line};
 use crate::values::has_step;
 
 /// A letter that is none of D, C and G.
@@ -32,6 +33,9 @@ pub struct Tally {
     pub opened: Cells,
     pub added_collateral: Cells,
     pub added_guarantees: Cells,
+    /// Of accepted deals and of refused lines.
+    pub days: Cells,
+    pub days_on_numbers: Cells,
     pub collateral_grounds: Cells,
     pub guarantee_grounds: Cells,
     pub collateral_haircuts: Cells,
@@ -72,6 +76,12 @@ impl Tally {
                 "answers of adding guarantees on numbers",
                 (0..=8).chain([11, 40]),
             ),
+            days: days::cells(
+                "days of accepted deals and refused lines: line, field, days, refusal",
+            ),
+            days_on_numbers: days::cells(
+                "days in opening and adding on numbers: line, field, days, refusal",
+            ),
             collateral_grounds: Cells::of_numbers("grounds of collateral", 21..=26),
             guarantee_grounds: Cells::of_numbers(
                 "grounds of guarantees",
@@ -109,7 +119,7 @@ impl Tally {
     }
 
     /// Every family of cases that a run should meet.
-    pub fn families(&self) -> [&Cells; 15] {
+    pub fn families(&self) -> [&Cells; 17] {
         [
             &self.book_sizes,
             &self.refused_books,
@@ -118,6 +128,8 @@ impl Tally {
             &self.opened,
             &self.added_collateral,
             &self.added_guarantees,
+            &self.days,
+            &self.days_on_numbers,
             &self.collateral_grounds,
             &self.guarantee_grounds,
             &self.collateral_haircuts,
@@ -142,19 +154,23 @@ impl Tally {
     /// A book that is answered, with its results.
     pub fn answered_book(&mut self, book: &[u8], results: &[u64]) {
         self.accepted_books += 1;
-        let letters: Vec<u8> = line::lines(book).map(|line| line[0]).collect();
-        for letter in &letters[1..] {
-            *self.lines.entry(named(*letter)).or_default() += 1;
+        let lines: Vec<&[u8]> = line::lines(book).collect();
+        for line in &lines[1..] {
+            *self.lines.entry(named(line[0])).or_default() += 1;
         }
         for answer in results.chunks_exact(4) {
             self.deals += 1;
             match answer[1] {
                 0 => self.accepted_deals += 1,
-                refusal => {
-                    let letter = named(letters[answer[2] as usize - 1]);
-                    self.refused_lines.meet(&[letter.into(), refusal]);
-                }
+                refusal => self.refused_line(lines[answer[2] as usize - 1], refusal),
             }
+        }
+    }
+
+    fn refused_line(&mut self, line: &[u8], refusal: u64) {
+        self.refused_lines.meet(&[named(line[0]).into(), refusal]);
+        if let Some(line) = Line::read(line) {
+            days::meet(&mut self.days, line.letter, &line.fields, refusal);
         }
     }
 
@@ -170,50 +186,61 @@ impl Tally {
                 goods(terms.lent_type, terms.lent_step, terms.lent_issue_life);
             self.lent_haircuts.meet(&[goods, step, band, terms.kind]);
         }
+        days::meet(&mut self.days, b'D', &terms.to_numbers(), 0);
         let counted = record.collateral.iter().zip(&report.collateral);
         for (item, outcome) in counted.take(record.collateral_count as usize) {
-            let met = match outcome {
-                Outcome::Valued(value) => {
-                    self.valued_collateral += 1;
-                    *value > 0
-                }
-                Outcome::LeftOut(ground) => {
-                    self.collateral_grounds.meet(&[ground.0]);
-                    ground.0 == 24
-                }
-            };
-            if met {
-                let [goods, step, band] = goods(item.goods, item.step, item.issue_life);
-                let listed = u64::from(goods == 4 && step == 0) * item.listed;
-                let cell = [goods, step, band, listed, terms.kind];
-                self.collateral_haircuts.meet(&cell);
-            }
-            if outcome.value() > 0 {
-                let other = u64::from(item.currency != terms.currency);
-                self.currencies.meet(&[1, other, terms.kind]);
-            }
+            self.collateral(terms, item, outcome);
         }
         let counted = record.guarantees.iter().zip(&report.guarantees);
         for (item, cover) in counted.take(record.guarantee_count as usize) {
-            let met = match cover.outcome {
-                Outcome::Valued(_) => {
-                    self.valued_guarantees += 1;
-                    cover.portion > 0
-                }
-                Outcome::LeftOut(ground) => {
-                    self.guarantee_grounds.meet(&[ground.0]);
-                    [28, 29].contains(&ground.0)
-                }
-            };
-            if met {
-                self.providers.meet(&[item.class, item.step]);
-                let against = [item.class, item.step, terms.class, terms.step];
-                self.against.meet(&against);
+            self.guarantee(terms, item, cover);
+        }
+    }
+
+    fn collateral(&mut self, terms: &Terms, item: &Collateral, outcome: &Outcome) {
+        days::meet(&mut self.days, b'C', &item.to_numbers(), 0);
+        let met = match outcome {
+            Outcome::Valued(value) => {
+                self.valued_collateral += 1;
+                *value > 0
             }
-            if cover.portion > 0 {
-                let other = u64::from(item.currency != terms.currency);
-                self.currencies.meet(&[2, other, terms.kind]);
+            Outcome::LeftOut(ground) => {
+                self.collateral_grounds.meet(&[ground.0]);
+                ground.0 == 24
             }
+        };
+        if met {
+            let [goods, step, band] = goods(item.goods, item.step, item.issue_life);
+            let listed = u64::from(goods == 4 && step == 0) * item.listed;
+            let cell = [goods, step, band, listed, terms.kind];
+            self.collateral_haircuts.meet(&cell);
+        }
+        if outcome.value() > 0 {
+            let other = u64::from(item.currency != terms.currency);
+            self.currencies.meet(&[1, other, terms.kind]);
+        }
+    }
+
+    fn guarantee(&mut self, terms: &Terms, item: &Guarantee, cover: &Cover) {
+        days::meet(&mut self.days, b'G', &item.to_numbers(), 0);
+        let met = match cover.outcome {
+            Outcome::Valued(_) => {
+                self.valued_guarantees += 1;
+                cover.portion > 0
+            }
+            Outcome::LeftOut(ground) => {
+                self.guarantee_grounds.meet(&[ground.0]);
+                [28, 29].contains(&ground.0)
+            }
+        };
+        if met {
+            self.providers.meet(&[item.class, item.step]);
+            let against = [item.class, item.step, terms.class, terms.step];
+            self.against.meet(&against);
+        }
+        if cover.portion > 0 {
+            let other = u64::from(item.currency != terms.currency);
+            self.currencies.meet(&[2, other, terms.kind]);
         }
     }
 }
@@ -292,5 +319,8 @@ mod tests {
         assert_eq!(tally.against.all(), 21 * 22);
         assert_eq!(tally.currencies.all(), 2 * 2 * 3);
         assert_eq!(tally.refused_lines.all(), 6 + 9 + 9 + 1);
+        // Eight edges and a day above the limit, in seven fields.
+        assert_eq!(tally.days.all(), 7 * 9);
+        assert_eq!(tally.days_on_numbers.all(), 7 * 9);
     }
 }

@@ -6,10 +6,22 @@ use hadlephoga::{Collateral, Guarantee, Terms};
 use crate::random::Random;
 
 pub const AMOUNT_LIMIT: u64 = 1_000_000_000_000;
-pub const DAYS_LIMIT: u64 = 36_000;
+pub const DAYS_LIMIT: u64 = 100_000;
+/// The limit of document 01; what was accepted under it still is.
+pub const EARLIER_DAYS_LIMIT: u64 = 36_000;
 
-const TERM_EDGES: &[u64] = &[
-    1, 2, 30, 89, 90, 91, 92, 359, 360, 361, 1799, 1800, 1801, 35_999, 36_000,
+/// Edges of what the rules tell apart.
+const SHORT_EDGES: &[u64] = &[1, 2, 30, 89, 90, 91, 92, 359, 360, 361, 1799, 1800, 1801];
+/// Edges of both limits and of 16 bits, which hold the days of the earlier one.
+pub const LONG_EDGES: &[u64] = &[
+    EARLIER_DAYS_LIMIT - 1,
+    EARLIER_DAYS_LIMIT,
+    EARLIER_DAYS_LIMIT + 1,
+    (1 << 16) - 1,
+    1 << 16,
+    (1 << 16) + 1,
+    DAYS_LIMIT - 1,
+    DAYS_LIMIT,
 ];
 const INTERVALS: &[u64] = &[1, 1, 1, 2, 5, 6, 10, 11, 20, 21, 249, 250];
 const CURRENCIES: &[u64] = &[978, 978, 840, 826, 1, 999];
@@ -36,11 +48,27 @@ fn item_amount(random: &mut Random, deal: &Terms, items: u64) -> u64 {
     random.between(0, most.clamp(1, AMOUNT_LIMIT))
 }
 
+/// Mostly a short one, where the rules tell days apart.
+fn edge(random: &mut Random) -> u64 {
+    let edges = random.weighted(&[(13, SHORT_EDGES), (2, LONG_EDGES)]);
+    random.pick(edges)
+}
+
+/// From so many days up; mostly not above the earlier limit, since longer ones
+/// are all alike to the rules.
+fn days_from(random: &mut Random, least: u64) -> u64 {
+    let most = match least <= EARLIER_DAYS_LIMIT && random.percent(90) {
+        true => EARLIER_DAYS_LIMIT,
+        false => DAYS_LIMIT,
+    };
+    random.between(least, most)
+}
+
 fn term(random: &mut Random) -> u64 {
     match random.below(4) {
-        0 | 1 => random.pick(TERM_EDGES),
+        0 | 1 => edge(random),
         2 => random.between(91, 3600),
-        _ => random.between(1, DAYS_LIMIT),
+        _ => days_from(random, 1),
     }
 }
 
@@ -49,7 +77,7 @@ fn cover_terms(random: &mut Random, deal: &Terms) -> (u64, u64) {
     let due = deal.residual_term;
     let residual = match random.below(10) {
         0..=2 => due,
-        3..=5 => random.between(due, DAYS_LIMIT),
+        3..=5 => days_from(random, due),
         6 | 7 if due > 92 => random.between(91, due - 1),
         8 => due.saturating_sub(1).max(1),
         _ => term(random),
@@ -57,8 +85,8 @@ fn cover_terms(random: &mut Random, deal: &Terms) -> (u64, u64) {
     let original = match random.below(8) {
         0 => residual,
         1 => residual.max(random.between(359, 361)),
-        2 => DAYS_LIMIT,
-        _ => random.between(residual.max(360), DAYS_LIMIT),
+        2 => residual.max(random.pick(LONG_EDGES)),
+        _ => days_from(random, residual.max(360)),
     };
     (residual, original)
 }
@@ -92,7 +120,7 @@ fn goods(random: &mut Random, eligible: u64) -> (u64, u64, u64) {
         false => random.between(0, 6),
     };
     let life = match random.percent(50) {
-        true => random.pick(TERM_EDGES),
+        true => edge(random),
         false => random.between(1, 3600),
     };
     (goods, step, life)
@@ -173,5 +201,45 @@ pub fn list_length(random: &mut Random) -> u64 {
         75..=91 => random.between(4, 8),
         92..=96 => random.between(9, 15),
         _ => 16,
+    }
+}
+
+#[cfg(test)]
+mod tests {
+    use super::*;
+    use crate::days;
+
+    #[test]
+    fn every_edge_is_met_in_every_field_of_days() {
+        let mut met = days::cells("");
+        for number in 0..5000 {
+            let random = &mut Random::new(13, number);
+            let terms = terms(random);
+            days::meet(&mut met, b'D', &terms.to_numbers(), 0);
+            for _ in 0..3 {
+                let item = collateral(random, &terms, 3);
+                days::meet(&mut met, b'C', &item.to_numbers(), 0);
+                let item = guarantee(random, &terms, 3);
+                days::meet(&mut met, b'G', &item.to_numbers(), 0);
+            }
+        }
+        // What is left is the day above the limit.
+        assert!(met.never_met().all(|cell| cell[2] > DAYS_LIMIT));
+        assert_eq!(met.never_met().count(), 7);
+    }
+
+    #[test]
+    fn most_days_are_such_as_the_rules_tell_apart() {
+        let terms = Vec::from_iter((0..10_000).map(|number| term(&mut Random::new(17, number))));
+        let within = |days: std::ops::RangeInclusive<u64>| {
+            terms.iter().filter(|term| days.contains(term)).count()
+        };
+        let (short, long) = (
+            within(1..=3600),
+            within(EARLIER_DAYS_LIMIT + 1..=DAYS_LIMIT),
+        );
+        assert!((6700..7500).contains(&short), "{short}");
+        assert!((400..900).contains(&long), "{long}");
+        assert_eq!(within(1..=DAYS_LIMIT), terms.len());
     }
 }
