@@ -1,19 +1,21 @@
--- 02: L11. "Raise the limit of issue life and of all terms to 100,000 .. Every deal accepted before keeps its answer."
+-- 02: L11. "Raise the limit of issue life and of all terms to 100,000, and widen the stored numbers so that none is cut. Every deal accepted
+-- before keeps its answer. (For lives and terms 5 now begins above 100,000.)"
 --
--- Opening, adding, reporting and answering a book are said over the limit of days in earlier/specs/Deals and earlier/specs/Books: the
--- definitions ending in `UpTo`, whose first argument it is. Before the request it was 36,000, now it is 100,000.
-use Prim.Native.Nat.{ℕ}
+-- `fUpTo limit` is the definition `f` of opening, adding, reporting or answering a book with `limit` in place of `daysLimit`
+-- (earlier/specs/Deals, earlier/specs/Books). Everything in it but the limit is the rule of today: the claim is about the limit alone. Calls on
+-- numbers (crate hadlephoga) go through the same operations. Every field holds 64 bits, and a number that is sent in a line has at most 13
+-- digits: none had to be widened, and none is cut.
+use Prim.Native.Nat.{ℕ, _≤_}
 use mathlib.Core.Path.{_≡_}
-use mathlib.Core.Bool.{true, false}
+use mathlib.Core.Bool.{true, false, _&&_}
 use mathlib.Core.List.{List}
 use lib.Dec.{eqb}
 use lib.ListN.{getD}
 use Rattle.deal.specs.Adding.{addCollateralRefusal, addGuaranteeRefusal, withCollateral, withGuarantee}
 use Rattle.deal.specs.Opening.{openedDeal}
-use Rattle.deal.specs.Ranges.{daysLimit}
+use Rattle.deal.specs.Ranges.{daysAllowed, daysLimit}
 use Rattle.deal.specs.Records.{accepted}
 use Rattle.deal.specs.Terms.{termsRefusal}
-use Rattle.deal.specs.Views.{viewOf}
 use Rattle.deal.specs.declared.terms.Terms.{Terms}
 use Rattle.deal.specs.declared.collateral.Collateral.{Collateral}
 use Rattle.deal.specs.declared.guarantee.Guarantee.{Guarantee}
@@ -22,20 +24,72 @@ use Rattle.relief.specs.Report.{reportOf, reportRefusal}
 use Rattle.book.specs.Answers.{dealAnswer}
 use Rattle.book.specs.Book.{linesBehind, resultsAfter}
 use Rattle.book.specs.Deals.{DealLines}
-use Rattle.earlier.specs.Books.{dealAnswerUpTo, linesNoneAbove, resultsUpTo}
-use Rattle.earlier.specs.Deals.{acceptedUpTo, addCollateralRefusalUpTo, addGuaranteeRefusalUpTo, dealNoneAbove, openedUpTo, reportRefusalUpTo, reportUpTo, termsRefusalUpTo, withCollateralUpTo, withGuaranteeUpTo}
+use Rattle.response.specs.Response.{printed}
+use Rattle.earlier.specs.Books.{dealAnswerUpTo, dealLinesNoneAbove, linesNoneAbove, printedUpTo, resultsUpTo}
+use Rattle.earlier.specs.Deals.{acceptedUpTo, addCollateralRefusalUpTo, addGuaranteeRefusalUpTo, collateralDays, dealNoneAbove, guaranteeDays, noneAbove, openedUpTo, reportRefusalUpTo, reportUpTo, termsDays, termsRefusalUpTo, withCollateralUpTo, withGuaranteeUpTo}
 
 -- "Days of life or cover are 1 to 36,000" (01: What a deal holds)
 abbrev pub limitBefore : ℕ
 limitBefore = 36000
 
+-- "to 100,000"
 abbrev pub limitNow : ℕ
 limitNow = 100000
 
+-- what a limit that rises leaves as it was
+pub record Raised (before now : ℕ) : Type 0 where
+  -- EVERY DEAL ACCEPTED BEFORE KEEPS ITS ANSWER
+
+  -- accepted before are exactly the records accepted now that hold no term or life above the limit of before ..
+  pub accepted-before : (d : Deal) → acceptedUpTo before d ≡ (acceptedUpTo now d && dealNoneAbove before d)
+  -- .. so each of them is accepted now ..
+  pub still-accepted : (d : Deal) → acceptedUpTo before d ≡ true → acceptedUpTo now d ≡ true
+  -- .. with the same report: every value, ground and portion, E*, the rest and the weighted amount
+  pub same-report : (d : Deal) → acceptedUpTo before d ≡ true → reportUpTo now d ≡ reportUpTo before d
+  -- OPENING AND ADDING: ANOTHER NUMBER THAN 5 STAYS, 0 AMONG THEM
+
+  -- with the deal that it gives. Adding is said of a deal that was accepted before; of others it was 40
+  pub opening-stays : (t : Terms) → eqb (termsRefusalUpTo before t) 5 ≡ false →
+      (termsRefusalUpTo now t ≡ termsRefusalUpTo before t) × (openedUpTo now t ≡ openedUpTo before t)
+  pub adding-collateral-stays : (d : Deal) (c : Collateral) → acceptedUpTo before d ≡ true → eqb (addCollateralRefusalUpTo before d c) 5 ≡ false →
+      (addCollateralRefusalUpTo now d c ≡ addCollateralRefusalUpTo before d c) × (withCollateralUpTo now d c ≡ withCollateralUpTo before d c)
+  pub adding-guarantee-stays : (d : Deal) (g : Guarantee) → acceptedUpTo before d ≡ true → eqb (addGuaranteeRefusalUpTo before d g) 5 ≡ false →
+      (addGuaranteeRefusalUpTo now d g ≡ addGuaranteeRefusalUpTo before d g) × (withGuaranteeUpTo now d g ≡ withGuaranteeUpTo before d g)
+  -- AND SO DOES A 5 WHERE NO TERM OR LIFE IS ABOVE THE LIMIT OF BEFORE
+
+  pub opening-same : (t : Terms) → noneAbove before (termsDays t) ≡ true →
+      (termsRefusalUpTo now t ≡ termsRefusalUpTo before t) × (openedUpTo now t ≡ openedUpTo before t)
+  pub adding-collateral-same : (d : Deal) (c : Collateral) → acceptedUpTo before d ≡ true → noneAbove before (collateralDays c) ≡ true →
+      (addCollateralRefusalUpTo now d c ≡ addCollateralRefusalUpTo before d c) × (withCollateralUpTo now d c ≡ withCollateralUpTo before d c)
+  pub adding-guarantee-same : (d : Deal) (g : Guarantee) → acceptedUpTo before d ≡ true → noneAbove before (guaranteeDays g) ≡ true →
+      (addGuaranteeRefusalUpTo now d g ≡ addGuaranteeRefusalUpTo before d g) × (withGuaranteeUpTo now d g ≡ withGuaranteeUpTo before d g)
+  -- where one is above it, what is taken now was refused by 5
+  pub opening-was : (t : Terms) → noneAbove before (termsDays t) ≡ false → termsRefusalUpTo now t ≡ 0 → termsRefusalUpTo before t ≡ 5
+  pub adding-collateral-was : (d : Deal) (c : Collateral) → acceptedUpTo before d ≡ true → noneAbove before (collateralDays c) ≡ false →
+      addCollateralRefusalUpTo now d c ≡ 0 → addCollateralRefusalUpTo before d c ≡ 5
+  pub adding-guarantee-was : (d : Deal) (g : Guarantee) → acceptedUpTo before d ≡ true → noneAbove before (guaranteeDays g) ≡ false →
+      addGuaranteeRefusalUpTo now d g ≡ 0 → addGuaranteeRefusalUpTo before d g ≡ 5
+  -- IN A BOOK
+
+  -- a deal that was answered by figures, or by another refusal than 5, is answered by the same three numbers ..
+  pub deal-stays : (deal : DealLines) → eqb (getD (dealAnswerUpTo before deal) 0 0) 5 ≡ false → dealAnswerUpTo now deal ≡ dealAnswerUpTo before deal
+  -- .. and so is every deal of which no line holds a term or life above the limit of before, whatever stands beside it
+  pub deal-same : (deal : DealLines) → dealLinesNoneAbove before deal ≡ true → dealAnswerUpTo now deal ≡ dealAnswerUpTo before deal
+  -- a book in which no line holds one has the same answers: every number of every results list, and every byte that is printed
+  pub book-same : (book list : List ℕ) → linesNoneAbove before (linesBehind book) ≡ true → resultsUpTo now book list ≡ resultsUpTo before book list
+  pub printed-same : (book : List ℕ) → linesNoneAbove before (linesBehind book) ≡ true → printedUpTo now book ≡ printedUpTo before book
+
 pub record LongerLives : Type 0 where
-  -- UP TO 100,000 THEY ARE WHAT THE CONTRACTS SAY
+  -- FROM 36,000 TO 100,000
+
+  pub longer : Raised limitBefore limitNow
+  -- and from any limit to any that is no lower
+  pub raised : (before now : ℕ) → before ≤ now → Raised before now
+  -- 100,000 IS THE LIMIT IN FORCE
 
   pub limit : daysLimit ≡ limitNow
+  pub begins-above : (daysAllowed daysLimit 100000 ≡ true) × (daysAllowed daysLimit 100001 ≡ false)
+  -- and with it each definition is the one that contracts name
   pub opening-now : (t : Terms) → (termsRefusalUpTo limitNow t ≡ termsRefusal t) × (openedUpTo limitNow t ≡ openedDeal t)
   pub accepted-now : (d : Deal) → acceptedUpTo limitNow d ≡ accepted d
   pub collateral-now : (d : Deal) (c : Collateral) →
@@ -44,26 +98,12 @@ pub record LongerLives : Type 0 where
       (addGuaranteeRefusalUpTo limitNow d g ≡ addGuaranteeRefusal d g) × (withGuaranteeUpTo limitNow d g ≡ withGuarantee d g)
   pub report-now : (d : Deal) → (reportRefusalUpTo limitNow d ≡ reportRefusal d) × (reportUpTo limitNow d ≡ reportOf d)
   pub deal-now : (deal : DealLines) → dealAnswerUpTo limitNow deal ≡ dealAnswer deal
-  pub book-now : (book list : List ℕ) → resultsUpTo limitNow book list ≡ resultsAfter book list
-  -- EVERY DEAL ACCEPTED BEFORE KEEPS ITS ANSWER
+  pub results-now : (book list : List ℕ) → resultsUpTo limitNow book list ≡ resultsAfter book list
+  pub printed-now : (book : List ℕ) → printedUpTo limitNow book ≡ printed book
+  -- UP TO ANY LIMIT what is not refused gives an accepted deal, so that what is said of adding holds line by line
 
-  -- a record that was accepted is accepted, with the same report: every value, ground and portion, E*, the rest and the weighted amount
-  pub still-accepted : (d : Deal) → acceptedUpTo limitBefore d ≡ true → acceptedUpTo limitNow d ≡ true
-  pub same-report : (d : Deal) → acceptedUpTo limitBefore d ≡ true → reportUpTo limitNow d ≡ reportUpTo limitBefore d
-  -- and one that is accepted now was so before, unless a term or life in it is above 36,000
-  pub accepted-before : (d : Deal) → dealNoneAbove limitBefore (viewOf d) ≡ true → acceptedUpTo limitNow d ≡ true → acceptedUpTo limitBefore d ≡ true
-  -- ONLY A 5 CAN CHANGE
-
-  -- in opening, and in adding to a deal that was accepted: another answer stays, 0 among them, and so does the deal
-  pub opening-kept : (t : Terms) → eqb (termsRefusalUpTo limitBefore t) 5 ≡ false →
-      (termsRefusalUpTo limitNow t ≡ termsRefusalUpTo limitBefore t) × (openedUpTo limitNow t ≡ openedUpTo limitBefore t)
-  pub collateral-kept : (d : Deal) (c : Collateral) → acceptedUpTo limitBefore d ≡ true → eqb (addCollateralRefusalUpTo limitBefore d c) 5 ≡ false →
-      (addCollateralRefusalUpTo limitNow d c ≡ addCollateralRefusalUpTo limitBefore d c) × (withCollateralUpTo limitNow d c ≡ withCollateralUpTo limitBefore d c)
-  pub guarantee-kept : (d : Deal) (g : Guarantee) → acceptedUpTo limitBefore d ≡ true → eqb (addGuaranteeRefusalUpTo limitBefore d g) 5 ≡ false →
-      (addGuaranteeRefusalUpTo limitNow d g ≡ addGuaranteeRefusalUpTo limitBefore d g) × (withGuaranteeUpTo limitNow d g ≡ withGuaranteeUpTo limitBefore d g)
-  -- in a book: a deal that was answered by figures, or by another refusal than 5, is answered by the same three numbers
-  pub deal-kept : (deal : DealLines) → eqb (getD (dealAnswerUpTo limitBefore deal) 0 0) 5 ≡ false → dealAnswerUpTo limitNow deal ≡ dealAnswerUpTo limitBefore deal
-  -- A BOOK IN WHICH NO LINE HOLDS A TERM OR LIFE ABOVE 36,000 HAS THE SAME ANSWERS
-
-  -- every number of every results list, the 5s among them; whether the book as a whole is refused asks for no days
-  pub book-kept : (book list : List ℕ) → linesNoneAbove limitBefore (linesBehind book) ≡ true → resultsUpTo limitNow book list ≡ resultsUpTo limitBefore book list
+  pub opened : (limit : ℕ) (t : Terms) → termsRefusalUpTo limit t ≡ 0 → acceptedUpTo limit (openedUpTo limit t) ≡ true
+  pub collateral-added : (limit : ℕ) (d : Deal) (c : Collateral) → acceptedUpTo limit d ≡ true → addCollateralRefusalUpTo limit d c ≡ 0 →
+      acceptedUpTo limit (withCollateralUpTo limit d c) ≡ true
+  pub guarantee-added : (limit : ℕ) (d : Deal) (g : Guarantee) → acceptedUpTo limit d ≡ true → addGuaranteeRefusalUpTo limit d g ≡ 0 →
+      acceptedUpTo limit (withGuaranteeUpTo limit d g) ≡ true

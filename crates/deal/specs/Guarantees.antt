@@ -14,7 +14,7 @@ use Rattle.deal.specs.declared.checks.FieldChecks.{FieldChecks}
 use Rattle.deal.specs.declared.guarantee.Guarantee.{Guarantee}
 use Rattle.deal.specs.declared.guarantee.GuaranteeList.{GuaranteeList}
 
--- what adding asks of each field, as of collateral
+-- what adding asks of each field, under a limit of days, as of collateral
 abbrev pub guaranteeChecks : ℕ → Guarantee → FieldChecks
 guaranteeChecks limit g = record {
   amount = amountAllowed (g .amount);

@@ -15,12 +15,12 @@ amountAllowed amount = leb amount amountLimit
 abbrev pub currencyAllowed : ℕ → Bool
 currencyAllowed currency = within 1 999 currency
 
--- "Raise the limit of issue life and of all terms to 100,000" (02: L11)
+-- "Raise the limit of issue life and of all terms to 100,000 .. (For lives and terms 5 now begins above 100,000.)" (02: L11)
 abbrev pub daysLimit : ℕ
 daysLimit = 100000
 
--- "Days of life or cover are 1 to" a limit: issue lives, the residual term of a deal, both terms of an item. What asks for days is said of
--- any limit, so that it can be said too of the one before (crates/earlier)
+-- "Days of life or cover are 1 to" a limit: issue lives, the residual term of a deal, both terms of an item. The limit is an argument so
+-- that the earlier one can be spoken of too (crates/earlier); the rule uses `daysLimit`
 abbrev pub daysAllowed : ℕ → ℕ → Bool
 daysAllowed limit days = within 1 limit days
 

@@ -40,7 +40,7 @@ pub fn without_protection(terms: Terms) -> Deal
 impl Deal {
     pub const AMOUNT_LIMIT: u64 = 1_000_000_000_000;
 
-    // The longest term, and the longest issue life.
+    // The most days of a term or of an issue life.
     pub const DAYS_LIMIT: u64 = 100_000;
 
     pub const COLLATERAL_LIMIT: usize = 16;

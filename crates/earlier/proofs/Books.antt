@@ -21,8 +21,10 @@ use Rattle.lines.specs.declared.line.Line.the-variants.{DealLine, CollateralLin
 use Rattle.book.specs.Answers.{refusedAt}
 use Rattle.book.specs.Book.{answeredDeals, bookRefusal, dealsOf, linesBehind}
 use Rattle.book.specs.Deals.{DealLines, dealsFrom, opensDeal, ownLines}
+use Rattle.result.specs.Result.{resultText}
+use Rattle.response.specs.Response.{places}
 use Rattle.earlier.specs.Deals.{acceptedUpTo, reportRefusalUpTo}
-use Rattle.earlier.specs.Books.{answersUpTo, dealAnswerUpTo, lineNoneAbove, lineRefusalUpTo, linesAnswerUpTo, linesNoneAbove, dealLinesNoneAbove, openedByUpTo, openingRefusalUpTo, reportedUpTo, resultsUpTo, withLineUpTo}
+use Rattle.earlier.specs.Books.{answersUpTo, dealAnswerUpTo, lineNoneAbove, lineRefusalUpTo, linesAnswerUpTo, linesNoneAbove, dealLinesNoneAbove, openedByUpTo, openingRefusalUpTo, printedUpTo, reportedUpTo, resultsUpTo, withLineUpTo}
 use Rattle.earlier.proofs.Fields.{Kept}
 use Rattle.earlier.proofs.Deals.{adding-collateral-stays, adding-guarantee-stays, collateral-accepted, guarantee-accepted, opened-accepted, opened-stays, opening-stays, same-report, same-reporting, with-collateral-stays, with-guarantee-stays, zero-kept}
 
@@ -175,13 +177,20 @@ module _ (p : List ℕ → Bool) where
       either (λ (l : List DealLines). allPass l (λ deal. allPass (deal .opening ∷ deal .further) p) ≡ true) (opensDeal line)
       (λ h. and-true _ _ (and-true _ _ (b .0) (own-pass lines (b .1))) later) (λ h. later)
 
--- the results list, whatever the book and the list are
-pub results-stay : (low high : ℕ) → low ≤ high → (book list : List ℕ) → linesNoneAbove low (linesBehind book) ≡ true → resultsUpTo high book list ≡ resultsUpTo low book list
-unfolding resultsUpTo answeredDeals
-results-stay low high raised book list e =
-    ap (λ answers. overwrite answers list) (answers-stay low high raised 1 (answeredDeals book (length list)) answered)
-  where
-    answered : allPass (answeredDeals book (length list)) (dealLinesNoneAbove low) ≡ true
-    answered =
-        either (λ (l : List DealLines). allPass l (dealLinesNoneAbove low) ≡ true) (eqb (bookRefusal book (length list)) 0)
-        (λ h. deals-pass (λ line. lineNoneAbove low (lineOf line)) 2 (linesBehind book) e) (λ h. refl)
+-- the deals of a book that are answered
+module _ (low high : ℕ) (raised : low ≤ high) (book : List ℕ) (short : linesNoneAbove low (linesBehind book) ≡ true) where
+  deals-stay : (places : ℕ) → answersUpTo high 1 (answeredDeals book places) ≡ answersUpTo low 1 (answeredDeals book places)
+  unfolding answeredDeals
+  deals-stay places =
+      either (λ (l : List DealLines). answersUpTo high 1 l ≡ answersUpTo low 1 l) (eqb (bookRefusal book places) 0)
+      (λ h. answers-stay low high raised 1 (dealsOf book) (deals-pass (λ line. lineNoneAbove low (lineOf line)) 2 (linesBehind book) short))
+      (λ h. answers-stay low high raised 1 [] refl)
+
+  -- the results list, whatever it held before, and what is printed
+  pub results-stay : (list : List ℕ) → resultsUpTo high book list ≡ resultsUpTo low book list
+  unfolding resultsUpTo
+  results-stay list = ap (λ answers. overwrite answers list) (deals-stay (length list))
+
+  pub printed-stays : printedUpTo high book ≡ printedUpTo low book
+  unfolding printedUpTo
+  printed-stays = ap (λ answers. resultText (bookRefusal book places) (length (answeredDeals book places)) answers) (deals-stay places)

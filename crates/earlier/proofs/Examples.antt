@@ -8,7 +8,6 @@ use lib.ListN.{replicate}
 use Rattle.text.specs.Bytes.{bytes}
 use Rattle.deal.specs.Fields.{collateralIn, guaranteeIn, termsIn}
 use Rattle.deal.specs.Records.{dealWith}
-use Rattle.deal.specs.Views.{viewOf}
 use Rattle.deal.specs.declared.deal.Deal.{Deal}
 use Rattle.book.specs.Book.{linesBehind}
 use Rattle.book.proofs.Examples.{worked}
@@ -51,7 +50,7 @@ unfolding worked reportUpTo acceptedUpTo termsRefusalUpTo collateralRefusalUpTo 
 records-answered = refl
 
 -- which of them hold a day above 36,000; places past a count do not matter
-records-short : map (λ n. dealNoneAbove 36000 (viewOf (holding n))) (36000 ∷ 36001 ∷ []) ≡ true ∷ false ∷ []
+records-short : map (λ n. dealNoneAbove 36000 (holding n)) (36000 ∷ 36001 ∷ []) ≡ true ∷ false ∷ []
 records-short = refl
 
 -- the same in a book, with the loan of 01 behind it

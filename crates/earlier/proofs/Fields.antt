@@ -7,9 +7,9 @@ use mathlib.Core.List.{List, [], _∷_, _++_}
 use native.Mathlib.Omega.{arith}
 use lib.Dec.{leb, eqb}
 use lib.ListN.{take, drop}
-use borrow.Author.Tests.{eq-eqb, leb-true, le-leb}
+use borrow.Author.Tests.{eq-eqb, eqb-true, leb-true, le-leb}
 use Rattle.base.specs.Choice.{if_then_else_}
-use Rattle.base.specs.FirstMet.{Test, _when_, firstOr, firstMet}
+use Rattle.base.specs.FirstMet.{NoneMet, Test, _when_, firstOr, firstMet}
 use Rattle.base.specs.Range.{within}
 use Rattle.base.proofs.Choice.{never}
 use Rattle.base.proofs.Every.{both}
@@ -134,3 +134,36 @@ module _ (low high : ℕ) (raised : low ≤ high) where
       firstMet (6 when full ∷ guaranteeTestsUpTo high g) ≡ firstMet (6 when full ∷ guaranteeTestsUpTo low g)
   guarantee-stays full g (inl e) = refusal-stays full (guaranteeChecks low g) _ (guarantee-more g) e
   guarantee-stays full g (inr e) = ap (λ r. firstMet (6 when full ∷ fieldTests (withRanges (guaranteeChecks low g) r))) (guarantee-same g e)
+
+-- fields that meet no test hold no day above the limit
+module _ (limit : ℕ) where
+  days-short : (n : ℕ) → daysAllowed limit n ≡ true → leb n limit ≡ true
+  days-short n e = le-leb n limit (bounds 1 limit n e .1)
+
+  life-short : (a : Asset) → lifeAllowed limit a ≡ true → leb (a .life) limit ≡ true
+  unfolding lifeAllowed if_then_else_
+  life-short a e = go (isDebt (a .goods)) e
+    where
+      go : (debt : Bool) → (if debt then daysAllowed limit (a .life) else eqb (a .life) 0) ≡ true → leb (a .life) limit ≡ true
+      go true h = days-short (a .life) h
+      go false h = le-leb (a .life) limit (omega (arith, eqb-true (a .life) 0 h))
+
+  held : (ranges : Bool) → not ranges ≡ false → ranges ≡ true
+  held ranges h = told-not-true ranges ranges refl h
+
+  pub terms-days : (t : Terms) → NoneMet (termsTestsUpTo limit t) → noneAbove limit (termsDays t) ≡ true
+  terms-days t n =
+      let days = both (intervalAllowed (t .interval) && daysAllowed limit (t .residual)) _ (held _ (n .1 .1 .1 .1 .0)) in
+      let term = both (intervalAllowed (t .interval)) _ (days .0) in
+      and-true _ _ (days-short _ (term .1)) (and-true _ _ (life-short (t .lent) (days .1)) refl)
+
+  pub collateral-days : (c : Collateral) → NoneMet (collateralTestsUpTo limit c) → noneAbove limit (collateralDays c) ≡ true
+  collateral-days c n =
+      let days = both (daysAllowed limit (c .residual) && daysAllowed limit (c .original)) _ (held _ (n .1 .1 .1 .1 .0)) in
+      let terms = both (daysAllowed limit (c .residual)) _ (days .0) in
+      and-true _ _ (days-short _ (terms .0)) (and-true _ _ (days-short _ (terms .1)) (and-true _ _ (life-short (c .asset) (days .1)) refl))
+
+  pub guarantee-days : (g : Guarantee) → NoneMet (guaranteeTestsUpTo limit g) → noneAbove limit (guaranteeDays g) ≡ true
+  guarantee-days g n =
+      let terms = both (daysAllowed limit (g .residual)) _ (held _ (n .1 .1 .1 .1 .0)) in
+      and-true _ _ (days-short _ (terms .0)) (and-true _ _ (days-short _ (terms .1)) refl)

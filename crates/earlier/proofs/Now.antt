@@ -21,10 +21,12 @@ use Rattle.lines.specs.Lines.{lineOf}
 use Rattle.lines.specs.declared.line.Line.{Line}
 use Rattle.lines.specs.declared.line.Line.the-variants.{DealLine, CollateralLine, GuaranteeLine, Malformed}
 use Rattle.book.specs.Answers.{answersFrom, dealAnswer, lineRefusal, linesAnswer, openedBy, openingRefusal, reported, withLine}
-use Rattle.book.specs.Book.{answeredDeals, resultsAfter}
+use Rattle.book.specs.Book.{answeredDeals, bookRefusal, resultsAfter}
 use Rattle.book.specs.Deals.{DealLines}
+use Rattle.result.specs.Result.{resultText}
+use Rattle.response.specs.Response.{places, printed}
 use Rattle.earlier.specs.Deals.{acceptedUpTo, addCollateralRefusalUpTo, addGuaranteeRefusalUpTo, collateralRefusalUpTo, guaranteeRefusalUpTo, openedUpTo, reportRefusalUpTo, reportUpTo, termsRefusalUpTo, withCollateralUpTo, withGuaranteeUpTo}
-use Rattle.earlier.specs.Books.{answersUpTo, dealAnswerUpTo, lineRefusalUpTo, linesAnswerUpTo, openedByUpTo, openingRefusalUpTo, reportedUpTo, resultsUpTo, withLineUpTo}
+use Rattle.earlier.specs.Books.{answersUpTo, dealAnswerUpTo, lineRefusalUpTo, linesAnswerUpTo, openedByUpTo, openingRefusalUpTo, printedUpTo, reportedUpTo, resultsUpTo, withLineUpTo}
 
 pub opening-now : (t : Terms) → termsRefusalUpTo daysLimit t ≡ termsRefusal t
 unfolding termsRefusalUpTo termsRefusal termsTests
@@ -74,9 +76,9 @@ opening-line-now Malformed = refl
 opened-line-now : (line : Line) → openedByUpTo daysLimit line ≡ openedBy line
 unfolding openedByUpTo openedBy
 opened-line-now (DealLine t) = opened-now t
-opened-line-now (CollateralLine c) = opened-now _
-opened-line-now (GuaranteeLine g) = opened-now _
-opened-line-now Malformed = opened-now _
+opened-line-now (CollateralLine c) = refl
+opened-line-now (GuaranteeLine g) = refl
+opened-line-now Malformed = refl
 
 line-now : (d : Deal) (line : Line) → lineRefusalUpTo daysLimit d line ≡ lineRefusal d line
 unfolding lineRefusalUpTo lineRefusal
@@ -111,3 +113,8 @@ answers-now serial (deal ∷ deals) = rw (deal-now deal, answers-now (serial + 1
 pub results-now : (book list : List ℕ) → resultsUpTo daysLimit book list ≡ resultsAfter book list
 unfolding resultsUpTo resultsAfter
 results-now book list = ap (λ answers. overwrite answers list) (answers-now 1 (answeredDeals book (length list)))
+
+pub printed-now : (book : List ℕ) → printedUpTo daysLimit book ≡ printed book
+unfolding printedUpTo printed
+printed-now book =
+    ap (λ answers. resultText (bookRefusal book places) (length (answeredDeals book places)) answers) (answers-now 1 (answeredDeals book places))

@@ -1,5 +1,5 @@
--- The answers to a book where issue lives and terms go up to any limit of days. 02: L11. Up to `daysLimit` they are the definition of a
--- book's answers (proofs/Now), up to another limit the same with that limit in its place
+-- The answers to a book with the limit of days as an argument: `fUpTo limit` is the definition `f` with `limit` in place of `daysLimit`. 02:
+-- L11. With `daysLimit` each is proved to be `f` itself (claims/specs/LongerLives)
 use Prim.Native.Nat.{ℕ, _+_}
 use mathlib.Core.Bool.{Bool, true}
 use mathlib.Core.List.{List, [], _∷_, _++_}
@@ -8,14 +8,15 @@ use lib.ListN.{length}
 use Rattle.base.specs.All.{allPass}
 use Rattle.base.specs.Choice.{if_then_else_}
 use Rattle.base.specs.Writing.{overwrite}
-use Rattle.deal.specs.Fields.{zeroTerms}
 use Rattle.deal.specs.declared.deal.Deal.{Deal}
 use Rattle.lines.specs.Lines.{lineOf}
 use Rattle.lines.specs.declared.line.Line.{Line}
 use Rattle.lines.specs.declared.line.Line.the-variants.{DealLine, CollateralLine, GuaranteeLine, Malformed}
-use Rattle.book.specs.Answers.{malformedLine, refusedAt}
-use Rattle.book.specs.Book.{answeredDeals}
+use Rattle.book.specs.Answers.{malformedLine, noDeal, refusedAt}
+use Rattle.book.specs.Book.{answeredDeals, bookRefusal}
 use Rattle.book.specs.Deals.{DealLines}
+use Rattle.result.specs.Result.{resultText}
+use Rattle.response.specs.Response.{places}
 use Rattle.earlier.specs.Deals.{addCollateralRefusalUpTo, addGuaranteeRefusalUpTo, collateralDays, guaranteeDays, noneAbove, openedUpTo, reportRefusalUpTo, reportUpTo, termsDays, termsRefusalUpTo, withCollateralUpTo, withGuaranteeUpTo}
 
 unfoldable pub openingRefusalUpTo : ℕ → Line → ℕ
@@ -26,9 +27,9 @@ openingRefusalUpTo limit Malformed = malformedLine
 
 unfoldable pub openedByUpTo : ℕ → Line → Deal
 openedByUpTo limit (DealLine terms) = openedUpTo limit terms
-openedByUpTo limit (CollateralLine c) = openedUpTo limit zeroTerms
-openedByUpTo limit (GuaranteeLine g) = openedUpTo limit zeroTerms
-openedByUpTo limit Malformed = openedUpTo limit zeroTerms
+openedByUpTo limit (CollateralLine c) = noDeal
+openedByUpTo limit (GuaranteeLine g) = noDeal
+openedByUpTo limit Malformed = noDeal
 
 unfoldable pub lineRefusalUpTo : ℕ → Deal → Line → ℕ
 lineRefusalUpTo limit d (CollateralLine c) = addCollateralRefusalUpTo limit d c
@@ -66,9 +67,17 @@ unfoldable pub answersUpTo : ℕ → ℕ → List DealLines → List ℕ
 answersUpTo limit serial [] = []
 answersUpTo limit serial (deal ∷ deals) = serial ∷ (dealAnswerUpTo limit deal ++ answersUpTo limit (serial + 1) deals)
 
--- the results list after a book; its refusals ask for no days (`bookReply`)
+-- the results list after a book, and what is printed for it. Refusals of a whole book ask for no days, so `bookReply` is the same under every
+-- limit
 unfoldable pub resultsUpTo : ℕ → List ℕ → List ℕ → List ℕ
-resultsUpTo limit book before = overwrite (answersUpTo limit 1 (answeredDeals book (length before))) before
+resultsUpTo limit book list = overwrite (answersUpTo limit 1 (answeredDeals book (length list))) list
+
+unfoldable pub printedUpTo : ℕ → List ℕ → List ℕ
+printedUpTo limit book =
+    let deals = answeredDeals book places in
+    resultText (bookRefusal book places) (length deals) (answersUpTo limit 1 deals)
+
+-- THE DAYS OF LINES
 
 -- whether a line holds no term or life above a limit; a line that cannot be read holds none
 unfoldable pub lineNoneAbove : ℕ → Line → Bool
@@ -77,10 +86,10 @@ lineNoneAbove limit (CollateralLine c) = noneAbove limit (collateralDays c)
 lineNoneAbove limit (GuaranteeLine g) = noneAbove limit (guaranteeDays g)
 lineNoneAbove limit Malformed = true
 
--- of several
+-- no line of a list holds one
 abbrev pub linesNoneAbove : ℕ → List (List ℕ) → Bool
 linesNoneAbove limit lines = allPass lines (λ line. lineNoneAbove limit (lineOf line))
 
--- of a deal
+-- no line of a deal holds one
 abbrev pub dealLinesNoneAbove : ℕ → DealLines → Bool
 dealLinesNoneAbove limit deal = linesNoneAbove limit (deal .opening ∷ deal .further)

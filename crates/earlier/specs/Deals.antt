@@ -1,8 +1,9 @@
--- Deals where issue lives and terms go up to any limit of days. 02: L11, "Raise the limit of issue life and of all terms". Up to `daysLimit`
--- they are what the contracts of opening, adding and reporting say (proofs/Now), up to another limit the same with that limit in its place
+-- Opening, adding and reporting with the limit of days as an argument: `fUpTo limit` is the definition `f` with `limit` in place of
+-- `daysLimit`. 02: L11, "Raise the limit of issue life and of all terms". With `daysLimit` each is proved to be `f` itself, which the contracts
+-- name (claims/specs/LongerLives)
 use Prim.Native.Nat.{ℕ}
 use mathlib.Core.Bool.{Bool, not, _&&_}
-use mathlib.Core.List.{List, [], _∷_, _++_}
+use mathlib.Core.List.{List, [], _∷_}
 use lib.Dec.{leb, eqb}
 use Rattle.base.specs.All.{allPass}
 use Rattle.base.specs.Choice.{if_then_else_}
@@ -15,7 +16,7 @@ use Rattle.deal.specs.Guarantees.{appendGuarantee, guaranteeChecks}
 use Rattle.deal.specs.Lists.{listAllowed, listTests, unlessRefused}
 use Rattle.deal.specs.Records.{dealOf, withoutProtection}
 use Rattle.deal.specs.Terms.{termsChecks}
-use Rattle.deal.specs.Views.{View, viewOf}
+use Rattle.deal.specs.Views.{viewOf}
 use Rattle.deal.specs.declared.terms.Terms.{Terms}
 use Rattle.deal.specs.declared.collateral.Collateral.{Collateral}
 use Rattle.deal.specs.declared.guarantee.Guarantee.{Guarantee}
@@ -97,8 +98,8 @@ abbrev pub noneAbove : ℕ → List ℕ → Bool
 noneAbove limit days = allPass days (λ n. leb n limit)
 
 -- neither in the terms of a deal nor in a counted item
-abbrev pub dealNoneAbove : ℕ → View → Bool
-dealNoneAbove limit v =
-    noneAbove limit (termsDays (v .terms))
-    && allPass (v .collateral) (λ c. noneAbove limit (collateralDays c))
-    && allPass (v .guarantees) (λ g. noneAbove limit (guaranteeDays g))
+abbrev pub dealNoneAbove : ℕ → Deal → Bool
+dealNoneAbove limit d =
+    noneAbove limit (termsDays (d .terms))
+    && allPass (viewOf d .collateral) (λ c. noneAbove limit (collateralDays c))
+    && allPass (viewOf d .guarantees) (λ g. noneAbove limit (guaranteeDays g))
