@@ -3,12 +3,25 @@ use Prim.Native.Nat.{ℕ, _≤_}
 use mathlib.Core.Logic.{inl, inr}
 use mathlib.Core.Path.{_≡_, refl}
 use mathlib.Core.Bool.{true, false}
+use mathlib.Core.List.{List, [], _∷_}
+use lib.ListN.{replicate}
 use native.Mathlib.Omega.{arith}
 use Rattle.base.specs.Range.{within}
+use Rattle.text.specs.Bytes.{bytes}
+use Rattle.deal.specs.Fields.{collateralIn, guaranteeIn, termsIn}
+use Rattle.deal.specs.Records.{dealWith}
+use Rattle.deal.specs.declared.terms.Terms.{Terms}
+use Rattle.deal.specs.declared.collateral.Collateral.{Collateral}
+use Rattle.deal.specs.declared.guarantee.Guarantee.{Guarantee}
+use Rattle.deal.specs.declared.deal.Deal.{Deal}
+use Rattle.book.specs.Deals.{DealLines}
+use Rattle.book.proofs.Examples.{worked}
+use Rattle.earlier.specs.Deals.{acceptedUpTo, addCollateralRefusalUpTo, addGuaranteeRefusalUpTo, collateralRefusalUpTo, guaranteeRefusalUpTo, openedUpTo, reportUpTo, termsRefusalUpTo, withCollateralUpTo, withGuaranteeUpTo}
+use Rattle.earlier.specs.Books.{dealAnswerUpTo, lineNoneAbove, lineRefusalUpTo, linesAnswerUpTo, openedByUpTo, openingRefusalUpTo, printedUpTo, reportedUpTo, resultsUpTo, withLineUpTo}
 use Rattle.earlier.proofs.Books.{deal-stays, printed-stays, results-stay}
 use Rattle.earlier.proofs.Deals.{accepted-before, adding-collateral-stays, adding-collateral-was, adding-guarantee-stays, adding-guarantee-was, collateral-accepted, guarantee-accepted, opened-accepted, opened-stays, opening-stays, opening-was, same-report, still-accepted, with-collateral-stays, with-guarantee-stays}
 use Rattle.earlier.proofs.Now.{accepted-now, adding-collateral-now, adding-guarantee-now, deal-now, opened-now, opening-now, printed-now, report-now, reporting-now, results-now, with-collateral-now, with-guarantee-now}
-use Rattle.claims.specs.LongerLives.{LongerLives, Raised, limitBefore, limitNow}
+use Rattle.claims.specs.LongerLives.{LongerLives, Raised}
 
 raised : (before now : ℕ) → before ≤ now → Raised before now
 raised before now h = record {
@@ -30,13 +43,13 @@ raised before now h = record {
   printed-same = λ book e. printed-stays before now h book e;
 }
 
-edges : (within 1 limitNow 100000 ≡ true) × (within 1 limitNow 100001 ≡ false)
+edges : (within 1 100000 100000 ≡ true) × (within 1 100000 100001 ≡ false)
 unfolding within
 edges = (refl, refl)
 
 pub longer-lives : LongerLives
 longer-lives = record {
-  longer = raised limitBefore limitNow (omega arith);
+  longer = raised 36000 100000 (omega arith);
   raised = raised;
   limit = refl;
   begins-above = edges;
@@ -52,3 +65,56 @@ longer-lives = record {
   collateral-added = λ limit d c a. collateral-accepted limit d a c;
   guarantee-added = λ limit d g a. guarantee-accepted limit d a g;
 }
+
+-- NO PROMISE IS EMPTY: of these, which hold 36,000 days and less, nothing more is asked
+
+abbrev terms : ℕ → Terms
+terms n = termsIn (1000000 ∷ 3 ∷ 0 ∷ 978 ∷ 1 ∷ 1 ∷ n ∷ 3 ∷ 1 ∷ 720 ∷ [])
+
+abbrev pledge : ℕ → Collateral
+pledge n = collateralIn (400000 ∷ 4 ∷ 1 ∷ n ∷ 978 ∷ 720 ∷ 36000 ∷ 1 ∷ 1 ∷ 1 ∷ 0 ∷ [])
+
+abbrev promise : ℕ → Guarantee
+promise n = guaranteeIn (200000 ∷ 1 ∷ 1 ∷ 978 ∷ 720 ∷ n ∷ 1 ∷ 1 ∷ 1 ∷ [])
+
+abbrev deal : Deal
+deal = dealWith (terms 36000) (pledge 36000 ∷ []) (promise 36000 ∷ [])
+
+record-said : (acceptedUpTo 100000 deal ≡ true) × (reportUpTo 100000 deal ≡ reportUpTo 36000 deal)
+unfolding worked acceptedUpTo termsRefusalUpTo collateralRefusalUpTo guaranteeRefusalUpTo
+record-said = (longer-lives .longer .still-accepted deal refl, longer-lives .longer .same-report deal refl)
+
+calls-said :
+    ((termsRefusalUpTo 100000 (terms 36000) ≡ termsRefusalUpTo 36000 (terms 36000)) × (openedUpTo 100000 (terms 36000) ≡ openedUpTo 36000 (terms 36000)))
+    × ((addCollateralRefusalUpTo 100000 deal (pledge 36000) ≡ addCollateralRefusalUpTo 36000 deal (pledge 36000)) × (withCollateralUpTo 100000 deal (pledge 36000) ≡ withCollateralUpTo 36000 deal (pledge 36000)))
+    × ((addGuaranteeRefusalUpTo 100000 deal (promise 36000) ≡ addGuaranteeRefusalUpTo 36000 deal (promise 36000)) × (withGuaranteeUpTo 100000 deal (promise 36000) ≡ withGuaranteeUpTo 36000 deal (promise 36000)))
+unfolding worked acceptedUpTo termsRefusalUpTo collateralRefusalUpTo guaranteeRefusalUpTo addCollateralRefusalUpTo addGuaranteeRefusalUpTo
+calls-said = (
+  longer-lives .longer .opening-stays (terms 36000) refl,
+  longer-lives .longer .adding-collateral-stays deal (pledge 36000) refl refl,
+  longer-lives .longer .adding-guarantee-stays deal (promise 36000) refl refl,
+)
+
+-- one day more was a 5
+calls-were :
+    (termsRefusalUpTo 36000 (terms 36001) ≡ 5) × (addCollateralRefusalUpTo 36000 deal (pledge 36001) ≡ 5) × (addGuaranteeRefusalUpTo 36000 deal (promise 36001) ≡ 5)
+unfolding worked acceptedUpTo termsRefusalUpTo collateralRefusalUpTo guaranteeRefusalUpTo addCollateralRefusalUpTo addGuaranteeRefusalUpTo
+calls-were = (
+  longer-lives .longer .opening-was (terms 36001) refl refl,
+  longer-lives .longer .adding-collateral-was deal (pledge 36001) refl refl refl,
+  longer-lives .longer .adding-guarantee-was deal (promise 36001) refl refl refl,
+)
+
+-- a deal answered by 11, and a book in which a 5 stands for an interval, beside a line that cannot be read
+abbrev lines : DealLines
+lines = record { number = 2; opening = bytes "D\t500\t3\t0\t978\t1\t1\t36000\t3\t1\t720\n"; further = bytes "X\n" ∷ [] }
+
+abbrev book : List ℕ
+book = bytes "CRM\t1\nD\t500\t3\t0\t978\t1\t251\t36000\t3\t1\t720\nX\n"
+
+books-said :
+    (dealAnswerUpTo 100000 lines ≡ dealAnswerUpTo 36000 lines)
+    × (resultsUpTo 100000 book (replicate 4 7) ≡ resultsUpTo 36000 book (replicate 4 7))
+    × (printedUpTo 100000 book ≡ printedUpTo 36000 book)
+unfolding worked dealAnswerUpTo linesAnswerUpTo reportedUpTo withLineUpTo lineRefusalUpTo openedByUpTo openingRefusalUpTo openedUpTo termsRefusalUpTo lineNoneAbove
+books-said = (longer-lives .longer .deal-stays lines refl, longer-lives .longer .book-same book (replicate 4 7) refl, longer-lives .longer .printed-same book refl)

@@ -28,14 +28,6 @@ use Rattle.response.specs.Response.{printed}
 use Rattle.earlier.specs.Books.{dealAnswerUpTo, dealLinesNoneAbove, linesNoneAbove, printedUpTo, resultsUpTo}
 use Rattle.earlier.specs.Deals.{acceptedUpTo, addCollateralRefusalUpTo, addGuaranteeRefusalUpTo, collateralDays, dealNoneAbove, guaranteeDays, noneAbove, openedUpTo, reportRefusalUpTo, reportUpTo, termsDays, termsRefusalUpTo, withCollateralUpTo, withGuaranteeUpTo}
 
--- "Days of life or cover are 1 to 36,000" (01: What a deal holds)
-abbrev pub limitBefore : ℕ
-limitBefore = 36000
-
--- "to 100,000"
-abbrev pub limitNow : ℕ
-limitNow = 100000
-
 -- what a limit that rises leaves as it was
 pub record Raised (before now : ℕ) : Type 0 where
   -- EVERY DEAL ACCEPTED BEFORE KEEPS ITS ANSWER
@@ -80,26 +72,26 @@ pub record Raised (before now : ℕ) : Type 0 where
   pub printed-same : (book : List ℕ) → linesNoneAbove before (linesBehind book) ≡ true → printedUpTo now book ≡ printedUpTo before book
 
 pub record LongerLives : Type 0 where
-  -- FROM 36,000 TO 100,000
+  -- FROM 36,000, "Days of life or cover are 1 to 36,000" (01: What a deal holds), TO 100,000
 
-  pub longer : Raised limitBefore limitNow
+  pub longer : Raised 36000 100000
   -- and from any limit to any that is no lower
   pub raised : (before now : ℕ) → before ≤ now → Raised before now
   -- 100,000 IS THE LIMIT IN FORCE
 
-  pub limit : daysLimit ≡ limitNow
+  pub limit : daysLimit ≡ 100000
   pub begins-above : (daysAllowed daysLimit 100000 ≡ true) × (daysAllowed daysLimit 100001 ≡ false)
   -- and with it each definition is the one that contracts name
-  pub opening-now : (t : Terms) → (termsRefusalUpTo limitNow t ≡ termsRefusal t) × (openedUpTo limitNow t ≡ openedDeal t)
-  pub accepted-now : (d : Deal) → acceptedUpTo limitNow d ≡ accepted d
+  pub opening-now : (t : Terms) → (termsRefusalUpTo 100000 t ≡ termsRefusal t) × (openedUpTo 100000 t ≡ openedDeal t)
+  pub accepted-now : (d : Deal) → acceptedUpTo 100000 d ≡ accepted d
   pub collateral-now : (d : Deal) (c : Collateral) →
-      (addCollateralRefusalUpTo limitNow d c ≡ addCollateralRefusal d c) × (withCollateralUpTo limitNow d c ≡ withCollateral d c)
+      (addCollateralRefusalUpTo 100000 d c ≡ addCollateralRefusal d c) × (withCollateralUpTo 100000 d c ≡ withCollateral d c)
   pub guarantee-now : (d : Deal) (g : Guarantee) →
-      (addGuaranteeRefusalUpTo limitNow d g ≡ addGuaranteeRefusal d g) × (withGuaranteeUpTo limitNow d g ≡ withGuarantee d g)
-  pub report-now : (d : Deal) → (reportRefusalUpTo limitNow d ≡ reportRefusal d) × (reportUpTo limitNow d ≡ reportOf d)
-  pub deal-now : (deal : DealLines) → dealAnswerUpTo limitNow deal ≡ dealAnswer deal
-  pub results-now : (book list : List ℕ) → resultsUpTo limitNow book list ≡ resultsAfter book list
-  pub printed-now : (book : List ℕ) → printedUpTo limitNow book ≡ printed book
+      (addGuaranteeRefusalUpTo 100000 d g ≡ addGuaranteeRefusal d g) × (withGuaranteeUpTo 100000 d g ≡ withGuarantee d g)
+  pub report-now : (d : Deal) → (reportRefusalUpTo 100000 d ≡ reportRefusal d) × (reportUpTo 100000 d ≡ reportOf d)
+  pub deal-now : (deal : DealLines) → dealAnswerUpTo 100000 deal ≡ dealAnswer deal
+  pub results-now : (book list : List ℕ) → resultsUpTo 100000 book list ≡ resultsAfter book list
+  pub printed-now : (book : List ℕ) → printedUpTo 100000 book ≡ printed book
   -- UP TO ANY LIMIT what is not refused gives an accepted deal, so that what is said of adding holds line by line
 
   pub opened : (limit : ℕ) (t : Terms) → termsRefusalUpTo limit t ≡ 0 → acceptedUpTo limit (openedUpTo limit t) ≡ true

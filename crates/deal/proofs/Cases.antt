@@ -1,7 +1,8 @@
 -- The definitions at the paper's own lines and at some edges, computed. Assumes nothing.
 use Prim.Native.Nat.{ℕ}
 use mathlib.Core.Path.{_≡_, refl}
-use mathlib.Core.List.{List, [], _∷_, map}
+use mathlib.Core.Bool.{Bool, true, false, not}
+use mathlib.Core.List.{List, [], _∷_, _++_, map}
 use lib.ListN.{replicate}
 use Rattle.base.specs.Choice.{if_then_else_}
 use Rattle.base.specs.FirstMet.{firstOr}
@@ -210,7 +211,7 @@ items-in-order = refl
 -- "For lives and terms 5 now begins above 100,000" (02: L11), in each field that holds days: the term of a deal and the life of what it
 -- lends; life, residual and original term of collateral; both terms of a guarantee
 abbrev days : List ℕ
-days = 0 ∷ 1 ∷ 36000 ∷ 36001 ∷ 99999 ∷ 100000 ∷ 100001 ∷ []
+days = 0 ∷ 1 ∷ 36000 ∷ 36001 ∷ 65537 ∷ 99999 ∷ 100000 ∷ 100001 ∷ 131073 ∷ 4294967297 ∷ []
 
 days-edges :
     map (λ f. map f days) (
@@ -222,7 +223,7 @@ days-edges :
     ∷ (λ n. backing (5 ∷ 3 ∷ 6 ∷ 978 ∷ n ∷ 100000 ∷ 1 ∷ 1 ∷ 1 ∷ []))
     ∷ (λ n. backing (5 ∷ 3 ∷ 6 ∷ 978 ∷ 1 ∷ n ∷ 1 ∷ 1 ∷ 1 ∷ []))
     ∷ [])
-    ≡ replicate 7 (5 ∷ 0 ∷ 0 ∷ 0 ∷ 0 ∷ 0 ∷ 5 ∷ [])
+    ≡ replicate 7 (5 ∷ 0 ∷ 0 ∷ 0 ∷ 0 ∷ 0 ∷ 0 ∷ 5 ∷ 5 ∷ 5 ∷ [])
 unfolding termsRefusal termsTests collateralRefusal collateralTests guaranteeRefusal guaranteeTests firstOr within partyStepAllowed assetStepAllowed lifeAllowed if_then_else_
 days-edges = refl
 
@@ -257,3 +258,33 @@ added-behind :
     withGuarantee (withGuarantee (withCollateral (withCollateral (openedDeal loan) (c 1)) (c 2)) (g 3)) (g 4) ≡ dealWith loan (c 1 ∷ c 2 ∷ []) (g 3 ∷ g 4 ∷ []))
 unfolding openedDeal withCollateral withGuarantee addCollateralRefusal addCollateralTests addGuaranteeRefusal addGuaranteeTests recordAllowed collateralListTests guaranteeListTests collateralListAllowed guaranteeListAllowed termsRefusal termsTests collateralRefusal collateralTests guaranteeRefusal guaranteeTests firstOr within partyStepAllowed assetStepAllowed lifeAllowed if_then_else_
 added-behind = refl
+
+-- the life of every type up to either limit, and lives that a narrower number would cut: none outside types 2 to 6, however long
+abbrev debtAlone : List Bool
+debtAlone = false ∷ false ∷ true ∷ true ∷ true ∷ true ∷ true ∷ false ∷ false ∷ false ∷ false ∷ []
+
+lives-of-types :
+    map (λ limit. map (λ n. map (λ t. lifeAllowed limit (record { goods = t; step = 0; life = n })) types) (0 ∷ 1 ∷ 36000 ∷ 36001 ∷ 65537 ∷ 100000 ∷ 100001 ∷ 131073 ∷ 4294967297 ∷ [])) (36000 ∷ 100000 ∷ [])
+    ≡ (map not debtAlone ∷ debtAlone ∷ debtAlone ∷ replicate 6 (replicate 11 false))
+    ∷ (map not debtAlone ∷ replicate 5 debtAlone ++ replicate 3 (replicate 11 false))
+    ∷ []
+unfolding within lifeAllowed if_then_else_
+lives-of-types = refl
+
+-- the same of pledges, where the refusal stands
+pledges-of-types :
+    map (λ n. map (λ t. item (5 ∷ t ∷ 0 ∷ n ∷ 978 ∷ 1 ∷ 1 ∷ 1 ∷ 1 ∷ 1 ∷ 1 ∷ [])) types) (0 ∷ 36001 ∷ 100000 ∷ 100001 ∷ [])
+    ≡ (2 ∷ 0 ∷ 5 ∷ 5 ∷ 5 ∷ 5 ∷ 5 ∷ 0 ∷ 0 ∷ 0 ∷ 2 ∷ [])
+    ∷ (2 ∷ 5 ∷ 0 ∷ 0 ∷ 0 ∷ 0 ∷ 0 ∷ 5 ∷ 5 ∷ 5 ∷ 2 ∷ [])
+    ∷ (2 ∷ 5 ∷ 0 ∷ 0 ∷ 0 ∷ 0 ∷ 0 ∷ 5 ∷ 5 ∷ 5 ∷ 2 ∷ [])
+    ∷ (2 ∷ 5 ∷ 5 ∷ 5 ∷ 5 ∷ 5 ∷ 5 ∷ 5 ∷ 5 ∷ 5 ∷ 2 ∷ [])
+    ∷ []
+unfolding collateralRefusal collateralTests firstOr within assetStepAllowed lifeAllowed if_then_else_
+pledges-of-types = refl
+
+-- 7 above 36,000
+long-terms-in-order :
+    map (λ n. item (5 ∷ 1 ∷ 0 ∷ 0 ∷ 978 ∷ n ∷ 70000 ∷ 1 ∷ 1 ∷ 1 ∷ 1 ∷ []) ∷ backing (5 ∷ 3 ∷ 6 ∷ 978 ∷ n ∷ 70000 ∷ 1 ∷ 1 ∷ 1 ∷ []) ∷ []) (1 ∷ 70000 ∷ 70001 ∷ 100000 ∷ [])
+    ≡ (0 ∷ 0 ∷ []) ∷ (0 ∷ 0 ∷ []) ∷ (7 ∷ 7 ∷ []) ∷ (7 ∷ 7 ∷ []) ∷ []
+unfolding collateralRefusal collateralTests guaranteeRefusal guaranteeTests firstOr within partyStepAllowed assetStepAllowed lifeAllowed if_then_else_
+long-terms-in-order = refl

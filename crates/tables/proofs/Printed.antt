@@ -64,3 +64,8 @@ pub weighed :
     × ((map (λ c. map (providerWeight c) steps) (1 ∷ 2 ∷ 3 ∷ []) ≡ weights) × (counterpartyWeight 4 0 ≡ 75))
 unfolding stepColumn tableWeight counterpartyWeight providerWeight if_then_else_
 weighed = (refl, (refl, refl))
+
+-- lives above 36,000, and those that a narrower number would cut, are in the last band
+bands-of-lives : map bandOf (360 ∷ 361 ∷ 1800 ∷ 1801 ∷ 36001 ∷ 65536 ∷ 65600 ∷ 100000 ∷ []) ≡ 0 ∷ 1 ∷ 1 ∷ 2 ∷ 2 ∷ 2 ∷ 2 ∷ 2 ∷ []
+unfolding bandOf if_then_else_
+bands-of-lives = refl

@@ -1,6 +1,7 @@
 -- The laws of a recognised value. Assumes nothing.
 use Prim.Native.Nat.{ℕ, _-_, _≤_, _<_, min}
 use mathlib.Core.Path.{_≡_, refl, _∙_}
+use mathlib.Core.List.{List, [], _∷_, map}
 use native.Mathlib.Omega.{arith}
 use native.Mathlib.Nat.{le-trans, mul-zero, zero-div}
 use Rattle.base.specs.Choice.{if_then_else_}
@@ -48,3 +49,13 @@ recognised-le a haircut cover term = le-trans (maturity-adjusted-le (volatilityA
 beyond-five-years : (maturityAdjusted 1000000 900 3600 ≡ 473684) × (maturityAdjusted 1000000 1800 3600 ≡ 1000000)
 unfolding maturityAdjusted mismatched if_then_else_
 beyond-five-years = (refl, refl)
+
+-- terms above 36,000, and those that a narrower number would cut: cover of 945 days is half of 1,800 over 90, cover of five years is whole
+long-terms :
+    map (λ term. maturityAdjusted 1000 945 term) (36001 ∷ 65536 ∷ 65600 ∷ 100000 ∷ []) ≡ 500 ∷ 500 ∷ 500 ∷ 500 ∷ []
+unfolding maturityAdjusted mismatched if_then_else_
+long-terms = refl
+
+long-covers : map (λ cover. maturityAdjusted 1000 cover 100000) (1800 ∷ 36001 ∷ 65536 ∷ 65600 ∷ 100000 ∷ []) ≡ 1000 ∷ 1000 ∷ 1000 ∷ 1000 ∷ 1000 ∷ []
+unfolding maturityAdjusted mismatched if_then_else_
+long-covers = refl
