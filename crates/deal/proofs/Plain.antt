@@ -1,16 +1,15 @@
 -- What is not refused, in plain inequalities: for sums and products to fit, and for the laws of the tables. Assumes nothing.
 use Prim.Native.Nat.{ℕ, _≤_, _<_}
 use mathlib.Core.Path.{_≡_, refl}
-use mathlib.Core.Bool.{Bool, true, false, not, _&&_}
+use mathlib.Core.Bool.{Bool, true, false, _&&_}
 use native.Mathlib.Omega.{arith}
 use lib.Dec.{leb, eqb}
 use lib.ListN.{length, getD}
-use borrow.Author.Tests.{leb-true, eqb-true}
+use borrow.Author.Tests.{leb-true, eqb-true, not-false as held}
 use Rattle.base.specs.Choice.{if_then_else_}
 use Rattle.base.proofs.Every.{both}
 use Rattle.base.proofs.FirstMet.{none-exactly}
 use Rattle.base.proofs.Range.{bounds}
-use Rattle.base.proofs.Tests.{told-not-true}
 use Rattle.deal.specs.Ranges.{daysAllowed, daysLimit, intervalAllowed, conditionAllowed}
 use Rattle.deal.specs.Parties.{counterpartyKnown, partyStepAllowed}
 use Rattle.deal.specs.Assets.{isDebt, assetStepAllowed}
@@ -65,10 +64,6 @@ pub record PlainGuarantee (g : Guarantee) : Type 0 where
   pub lawful : g .lawful ≤ 1
   pub direct : g .direct ≤ 1
   pub «not_in_rating» : g .«not_in_rating» ≤ 1
-
--- a test that was not met, its condition negated
-held : (a : Bool) → not a ≡ false → a ≡ true
-held a e = told-not-true a a refl e
 
 -- a step is 0 or at most 6, whatever the class or type
 party-step : (p : Party) → partyStepAllowed p ≡ true → p .step ≤ 6

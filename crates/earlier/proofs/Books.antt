@@ -1,15 +1,14 @@
 -- A higher limit of days in a book: a deal's answer stays unless it was a 5 and a line of it holds a day above the lower limit. Assumes
 -- nothing.
 use Prim.Native.Nat.{ℕ, _≤_, _+_}
-use mathlib.Core.Logic.{_⊎_, inl, inr}
+use mathlib.Core.Logic.{inl, inr}
 use mathlib.Core.Path.{_≡_, refl, sym, ap, _∙_}
 use mathlib.Core.Bool.{Bool, true, false, _&&_}
-use mathlib.Core.List.{List, [], _∷_, _++_}
+use mathlib.Core.List.{List, [], _∷_}
 use borrow.Author.Tests.{eq-eqb, eqb-true}
 use lib.Dec.{eqb}
-use lib.ListN.{drop, getD, length}
+use lib.ListN.{getD, length}
 use Rattle.base.specs.All.{allPass}
-use Rattle.base.specs.Choice.{if_then_else_}
 use Rattle.base.specs.Writing.{overwrite}
 use Rattle.base.proofs.Choice.{either, if-false, if-true, never}
 use Rattle.base.proofs.Every.{both}
@@ -23,7 +22,7 @@ use Rattle.book.specs.Book.{answeredDeals, bookRefusal, dealsOf, linesBehind}
 use Rattle.book.specs.Deals.{DealLines, dealsFrom, opensDeal, ownLines}
 use Rattle.result.specs.Result.{resultText}
 use Rattle.response.specs.Response.{places}
-use Rattle.earlier.specs.Deals.{acceptedUpTo, reportRefusalUpTo}
+use Rattle.earlier.specs.Deals.{acceptedUpTo}
 use Rattle.earlier.specs.Books.{answersUpTo, dealAnswerUpTo, lineNoneAbove, lineRefusalUpTo, linesAnswerUpTo, linesNoneAbove, dealLinesNoneAbove, openedByUpTo, openingRefusalUpTo, printedUpTo, reportedUpTo, resultsUpTo, withLineUpTo}
 use Rattle.earlier.proofs.Fields.{Kept}
 use Rattle.earlier.proofs.Deals.{adding-collateral-stays, adding-guarantee-stays, collateral-accepted, guarantee-accepted, opened-accepted, opened-stays, opening-stays, same-report, same-reporting, with-collateral-stays, with-guarantee-stays, zero-kept}

@@ -1,7 +1,7 @@
 -- A higher limit of days in opening, adding and reporting: what was accepted stays so, with the same report. Assumes nothing.
-use Prim.Native.Nat.{ℕ, _≤_, _+_}
-use mathlib.Core.Logic.{_⊎_, inl, inr}
-use mathlib.Core.Path.{_≡_, refl, sym, ap, _∙_}
+use Prim.Native.Nat.{ℕ, _≤_}
+use mathlib.Core.Logic.{inl, inr}
+use mathlib.Core.Path.{_≡_, refl, sym, _∙_}
 use mathlib.Core.Bool.{Bool, true, false, not, _&&_}
 use mathlib.Core.List.{List, [], _∷_}
 use lib.Dec.{leb, eqb}
@@ -17,7 +17,7 @@ use Rattle.base.proofs.FirstMet.{distinct, none-exactly, not-met}
 use Rattle.base.proofs.Tests.{and-true, not-false}
 use Rattle.deal.specs.Collateral.{appendCollateral}
 use Rattle.deal.specs.Guarantees.{appendGuarantee}
-use Rattle.deal.specs.Lists.{listAllowed, listLimit, listTests, unlessRefused}
+use Rattle.deal.specs.Lists.{listAllowed, listLimit, listTests}
 use Rattle.deal.specs.Records.{dealOf, withoutProtection}
 use Rattle.deal.specs.Views.{viewOf}
 use Rattle.deal.specs.declared.terms.Terms.{Terms}

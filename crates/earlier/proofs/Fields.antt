@@ -6,15 +6,14 @@ use mathlib.Core.Bool.{Bool, true, false, not, _&&_}
 use mathlib.Core.List.{List, [], _∷_, _++_}
 use native.Mathlib.Omega.{arith}
 use lib.Dec.{leb, eqb}
-use lib.ListN.{take, drop}
-use borrow.Author.Tests.{eq-eqb, eqb-true, leb-true, le-leb}
+use borrow.Author.Tests.{eq-eqb, eqb-true, leb-true, le-leb, not-false as held}
 use Rattle.base.specs.Choice.{if_then_else_}
 use Rattle.base.specs.FirstMet.{NoneMet, Test, _when_, firstOr, firstMet}
 use Rattle.base.specs.Range.{within}
 use Rattle.base.proofs.Choice.{never}
 use Rattle.base.proofs.Every.{both}
 use Rattle.base.proofs.Range.{bounds, inside}
-use Rattle.base.proofs.Tests.{and-true, not-false, told-not-true}
+use Rattle.base.proofs.Tests.{and-true, not-false}
 use Rattle.deal.specs.Assets.{isDebt, lifeAllowed}
 use Rattle.deal.specs.Checks.{fieldTests}
 use Rattle.deal.specs.Collateral.{collateralChecks}
@@ -29,7 +28,7 @@ use Rattle.deal.specs.declared.guarantee.Guarantee.{Guarantee}
 use Rattle.earlier.specs.Deals.{collateralDays, collateralTestsUpTo, guaranteeDays, guaranteeTestsUpTo, noneAbove, termsDays, termsTestsUpTo}
 
 -- a test among others that is met less often: where its number was not given, what is given stays
-pub first-eased : (front : List (Test ℕ)) (n : ℕ) (met met′ : Bool) (back : List (Test ℕ)) → (met ≡ false → met′ ≡ false) →
+first-eased : (front : List (Test ℕ)) (n : ℕ) (met met′ : Bool) (back : List (Test ℕ)) → (met ≡ false → met′ ≡ false) →
     eqb (firstMet (front ++ (n when met) ∷ back)) n ≡ false → firstMet (front ++ (n when met′) ∷ back) ≡ firstMet (front ++ (n when met) ∷ back)
 unfolding firstOr if_then_else_
 first-eased [] n true met′ back eased e = absurd (never (eq-eqb n n refl) e)
@@ -56,7 +55,7 @@ refusal-stays : (full : Bool) (c : FieldChecks) (ranges : Bool) → (c .ranges �
     firstMet (6 when full ∷ fieldTests (withRanges c ranges)) ≡ firstMet (6 when full ∷ fieldTests c)
 refusal-stays full c ranges more e =
     first-eased (6 when full ∷ 1 when not (c .amount) ∷ 2 when not (c .codes) ∷ 3 when not (c .steps) ∷ 4 when not (c .currency) ∷ [])
-    5 (not (c .ranges)) (not ranges) (7 when not (c .maturity) ∷ 8 when not (c .conditions) ∷ []) (λ h. not-false ranges (more (told-not-true (c .ranges) (c .ranges) refl h))) e
+    5 (not (c .ranges)) (not ranges) (7 when not (c .maturity) ∷ 8 when not (c .conditions) ∷ []) (λ h. not-false ranges (more (held (c .ranges) h))) e
 
 -- what was not a 5, or holds no day above the lower limit
 abbrev pub Kept : ℕ → Bool → Type 0
@@ -147,9 +146,6 @@ module _ (limit : ℕ) where
       go : (debt : Bool) → (if debt then daysAllowed limit (a .life) else eqb (a .life) 0) ≡ true → leb (a .life) limit ≡ true
       go true h = days-short (a .life) h
       go false h = le-leb (a .life) limit (omega (arith, eqb-true (a .life) 0 h))
-
-  held : (ranges : Bool) → not ranges ≡ false → ranges ≡ true
-  held ranges h = told-not-true ranges ranges refl h
 
   pub terms-days : (t : Terms) → NoneMet (termsTestsUpTo limit t) → noneAbove limit (termsDays t) ≡ true
   terms-days t n =

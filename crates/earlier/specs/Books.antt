@@ -1,5 +1,5 @@
--- The answers to a book with the limit of days as an argument: `fUpTo limit` is the definition `f` with `limit` in place of `daysLimit`. 02:
--- L11. With `daysLimit` each is proved to be `f` itself (claims/specs/LongerLives)
+-- The answers to a book with the limit of days as an argument. 02: L11. Each is the definition that it is named after (`answersUpTo` of
+-- `answersFrom`, `resultsUpTo` of `resultsAfter`) with `limit` in place of `daysLimit`; with `daysLimit` it is proved to be that one (proofs/Now)
 use Prim.Native.Nat.{ℕ, _+_}
 use mathlib.Core.Bool.{Bool, true}
 use mathlib.Core.List.{List, [], _∷_, _++_}

@@ -1,6 +1,6 @@
--- Opening, adding and reporting with the limit of days as an argument: `fUpTo limit` is the definition `f` with `limit` in place of
--- `daysLimit`. 02: L11, "Raise the limit of issue life and of all terms". With `daysLimit` each is proved to be `f` itself, which the contracts
--- name (claims/specs/LongerLives)
+-- Opening, adding and reporting with the limit of days as an argument. 02: L11, "Raise the limit of issue life and of all terms". Each is the
+-- definition that it is named after (`openedUpTo` of `openedDeal`, `reportUpTo` of `reportOf`) with `limit` in place of `daysLimit`; with
+-- `daysLimit` it is proved to be that one, which the contracts name (the fields ending in -now of claims/specs/LongerLives)
 use Prim.Native.Nat.{ℕ}
 use mathlib.Core.Bool.{Bool, not, _&&_}
 use mathlib.Core.List.{List, [], _∷_}
