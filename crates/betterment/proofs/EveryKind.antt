@@ -27,7 +27,7 @@ collateral-named c = (refl, (refl, refl))
 
 pub guarantee-named : (g : Guarantee) →
     (at (guaranteeFields g) (guaranteePlaces .higher) ≡ g .amount ∷ g .residual ∷ g .original ∷ [])
-    × ((at (guaranteeFields g) (guaranteePlaces .steps ++ guaranteePlaces .currencies) ≡ g .provider .step ∷ g .currency ∷ [])
+    × ((at (guaranteeFields g) (guaranteePlaces .steps ++ guaranteePlaces .currencies) ≡ g .provider .step ∷ g .provider .«sovereign_step» ∷ g .currency ∷ [])
     × (at (guaranteeFields g) (guaranteePlaces .conditions) ≡ g .lawful ∷ g .direct ∷ g .«not_in_rating» ∷ []))
 guarantee-named g = (refl, (refl, refl))
 
@@ -115,25 +115,29 @@ module _ (t : Terms) (cs : List Collateral) (front back : List Guarantee) (g : G
   pub guarantee-amount : (new : ℕ) → g .amount < new → GuaranteeTo (changedGuarantee 0 new g)
   guarantee-amount new h = guarantee-to (BetterItem.higher OneOf.here new (omega arith))
 
-  pub guarantee-residual : (new : ℕ) → g .residual < new → GuaranteeTo (changedGuarantee 4 new g)
+  pub guarantee-residual : (new : ℕ) → g .residual < new → GuaranteeTo (changedGuarantee 5 new g)
   guarantee-residual new h = guarantee-to (BetterItem.higher (OneOf.later OneOf.here) new (omega arith))
 
-  pub guarantee-original : (new : ℕ) → g .original < new → GuaranteeTo (changedGuarantee 5 new g)
+  pub guarantee-original : (new : ℕ) → g .original < new → GuaranteeTo (changedGuarantee 6 new g)
   guarantee-original new h = guarantee-to (BetterItem.higher (OneOf.later (OneOf.later OneOf.here)) new (omega arith))
 
   pub guarantee-step : (new : ℕ) → 1 ≤ new → new < g .provider .step → g .provider .step ≤ 6 → GuaranteeTo (changedGuarantee 2 new g)
   guarantee-step new one less six = guarantee-to (BetterItem.smaller-step OneOf.here new (omega arith))
 
-  pub guarantee-currency : GuaranteeTo (changedGuarantee 3 (t .currency) g)
+  -- "A better step of a guarantor's sovereign, between rated steps" (02: L5)
+  pub guarantee-sovereign : (new : ℕ) → 1 ≤ new → new < g .provider .«sovereign_step» → g .provider .«sovereign_step» ≤ 6 → GuaranteeTo (changedGuarantee 3 new g)
+  guarantee-sovereign new one less six = guarantee-to (BetterItem.smaller-step (OneOf.later OneOf.here) new (omega arith))
+
+  pub guarantee-currency : GuaranteeTo (changedGuarantee 4 (t .currency) g)
   guarantee-currency = guarantee-to (BetterItem.deal-currency OneOf.here)
 
-  pub guarantee-lawful : g .lawful ≡ 0 → GuaranteeTo (changedGuarantee 6 1 g)
+  pub guarantee-lawful : g .lawful ≡ 0 → GuaranteeTo (changedGuarantee 7 1 g)
   guarantee-lawful e = guarantee-to (BetterItem.now-met OneOf.here e)
 
-  pub guarantee-direct : g .direct ≡ 0 → GuaranteeTo (changedGuarantee 7 1 g)
+  pub guarantee-direct : g .direct ≡ 0 → GuaranteeTo (changedGuarantee 8 1 g)
   guarantee-direct e = guarantee-to (BetterItem.now-met (OneOf.later OneOf.here) e)
 
-  pub guarantee-not-in-rating : g .«not_in_rating» ≡ 0 → GuaranteeTo (changedGuarantee 8 1 g)
+  pub guarantee-not-in-rating : g .«not_in_rating» ≡ 0 → GuaranteeTo (changedGuarantee 9 1 g)
   guarantee-not-in-rating e = guarantee-to (BetterItem.now-met (OneOf.later (OneOf.later OneOf.here)) e)
 
   pub guarantees-more : Better (view t cs (front ++ back)) (view t cs (front ++ g ∷ back))

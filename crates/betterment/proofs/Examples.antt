@@ -7,7 +7,7 @@ use native.Mathlib.Omega.{arith}
 use lib.Dec.{ltb}
 use lib.ListN.{replicate}
 use Rattle.base.specs.All.{allPass}
-use Rattle.deal.specs.Fields.{termsIn}
+use Rattle.deal.specs.Fields.{guaranteeIn, termsIn}
 use Rattle.deal.specs.Records.{accepted, withoutProtection}
 use Rattle.deal.specs.declared.terms.Terms.{Terms}
 use Rattle.deal.specs.declared.collateral.Collateral.{Collateral}
@@ -22,7 +22,7 @@ use Rattle.betterment.proofs.Theorem.{betterments-never-raise}
 
 -- the first deal of 01, The book: a loan of 1,000,000, sovereign debt of 400,000 and a sovereign's guarantee of 200,000
 abbrev loan : Terms
-loan = termsIn (1000000 ∷ 3 ∷ 0 ∷ 978 ∷ 3 ∷ 1 ∷ 1800 ∷ 1 ∷ 0 ∷ 0 ∷ [])
+loan = termsIn (1000000 ∷ 3 ∷ 0 ∷ 0 ∷ 978 ∷ 3 ∷ 1 ∷ 1800 ∷ 1 ∷ 0 ∷ 0 ∷ 1 ∷ [])
 
 abbrev pledge : ℕ → ℕ → Collateral
 pledge goods step = record {
@@ -43,7 +43,7 @@ debt = pledge 2 1
 abbrev backing : Guarantee
 backing = record {
   amount = 200000;
-  provider = record { class = 1; step = 1 };
+  provider = record { class = 1; step = 1; «sovereign_step» = 0 };
   currency = 978;
   residual = 1800;
   original = 1800;
@@ -87,6 +87,16 @@ of-guarantee {g} {g′} b =
     ∷ record { old = deal loan [] (backing ∷ g ∷ []); new = deal loan [] (backing ∷ g′ ∷ []); better = Better.better-guarantee (OneChanged.later (OneChanged.here b)) }
     ∷ []
 
+-- of a guarantee under the second edition
+abbrev loan-2 : Terms
+loan-2 = termsIn (1000000 ∷ 3 ∷ 0 ∷ 6 ∷ 978 ∷ 3 ∷ 1 ∷ 1800 ∷ 1 ∷ 0 ∷ 0 ∷ 2 ∷ [])
+
+abbrev of-floored : {g g′ : Guarantee} → BetterGuarantee 978 g g′ → List Case
+of-floored {g} {g′} b =
+    record { old = deal loan-2 [] (g ∷ []); new = deal loan-2 [] (g′ ∷ []); better = Better.better-guarantee (OneChanged.here b) }
+    ∷ record { old = deal loan-2 [] (backing ∷ g ∷ []); new = deal loan-2 [] (backing ∷ g′ ∷ []); better = Better.better-guarantee (OneChanged.later (OneChanged.here b)) }
+    ∷ []
+
 -- of the terms, with collateral that a shorter interval makes worth more
 abbrev of-terms : {t t′ : Terms} → BetterTerms t t′ → List Case
 of-terms {t} {t′} b = record { old = deal t (debt ∷ []) []; new = deal t′ (debt ∷ []) []; better = Better.better-terms b } ∷ []
@@ -105,15 +115,17 @@ cases =
     -- bank debt, unrated
     ++ of-collateral (BetterItem.now-met {x = pledge 4 0} (OneOf.later (OneOf.later (OneOf.later OneOf.here))) refl)
     ++ of-guarantee (BetterItem.higher {x = changedGuarantee 0 100000 backing} OneOf.here 200000 (omega arith))
-    ++ of-guarantee (BetterItem.higher {x = changedGuarantee 4 900 backing} (OneOf.later OneOf.here) 1800 (omega arith))
-    ++ of-guarantee (BetterItem.higher {x = changedGuarantee 5 359 (changedGuarantee 4 300 backing)} (OneOf.later (OneOf.later OneOf.here)) 360 (omega arith))
+    ++ of-guarantee (BetterItem.higher {x = changedGuarantee 5 900 backing} (OneOf.later OneOf.here) 1800 (omega arith))
+    ++ of-guarantee (BetterItem.higher {x = changedGuarantee 6 359 (changedGuarantee 5 300 backing)} (OneOf.later (OneOf.later OneOf.here)) 360 (omega arith))
     ++ of-guarantee (BetterItem.smaller-step {x = changedGuarantee 2 3 backing} OneOf.here 2 (omega arith))
-    ++ of-guarantee (BetterItem.deal-currency {x = changedGuarantee 3 840 backing} OneOf.here)
-    ++ of-guarantee (BetterItem.now-met {x = changedGuarantee 6 0 backing} OneOf.here refl)
-    ++ of-guarantee (BetterItem.now-met {x = changedGuarantee 7 0 backing} (OneOf.later OneOf.here) refl)
-    ++ of-guarantee (BetterItem.now-met {x = changedGuarantee 8 0 backing} (OneOf.later (OneOf.later OneOf.here)) refl)
+    ++ of-guarantee (BetterItem.deal-currency {x = changedGuarantee 4 840 backing} OneOf.here)
+    ++ of-guarantee (BetterItem.now-met {x = changedGuarantee 7 0 backing} OneOf.here refl)
+    ++ of-guarantee (BetterItem.now-met {x = changedGuarantee 8 0 backing} (OneOf.later OneOf.here) refl)
+    ++ of-guarantee (BetterItem.now-met {x = changedGuarantee 9 0 backing} (OneOf.later (OneOf.later OneOf.here)) refl)
+    -- an unrated bank under a sovereign of step 4, then of step 2: 100 and 50, for an unrated corporate under one of step 6, which weighs 150
+    ++ of-floored (BetterItem.smaller-step {x = guaranteeIn (200000 ∷ 2 ∷ 0 ∷ 4 ∷ 978 ∷ 1800 ∷ 1800 ∷ 1 ∷ 1 ∷ 1 ∷ [])} (OneOf.later OneOf.here) 2 (omega arith))
     -- sovereign debt lent under a repo
-    ++ of-terms (BetterTerms.smaller-lent-step {t = termsIn (1000000 ∷ 3 ∷ 0 ∷ 978 ∷ 1 ∷ 1 ∷ 1800 ∷ 2 ∷ 4 ∷ 720 ∷ [])} 1 (omega arith))
+    ++ of-terms (BetterTerms.smaller-lent-step {t = termsIn (1000000 ∷ 3 ∷ 0 ∷ 0 ∷ 978 ∷ 1 ∷ 1 ∷ 1800 ∷ 2 ∷ 4 ∷ 720 ∷ 1 ∷ [])} 1 (omega arith))
     ++ of-terms (BetterTerms.smaller-interval {t = changedTerms intervalPlace 250 loan} 1 (omega arith))
     -- one more item, in front of another and behind it
     ++ record { old = deal loan (debt ∷ []) []; new = deal loan (pledge 2 3 ∷ debt ∷ []) []; better = Better.more-collateral OneMore.here }

@@ -70,25 +70,25 @@ module _ {currency : ℕ} where
       ((λ h q. no-worse-collateral p q (omega arith) (inl refl) (inl refl)), ((λ h q. no-worse-collateral p q (omega arith) (inl refl) (inl refl)), ((λ h q. no-worse-collateral p q (omega arith) (inl refl) (inl refl)), ((λ h q. no-worse-collateral p q (omega arith) (inl refl) (inl refl)), tt)))) m e p′
 
   no-worse-guarantee : {g g′ : Guarantee} → PlainGuarantee g → PlainGuarantee g′ → NoLowerGuarantee g g′ → SameOrBetter (g .provider .step) (g′ .provider .step) →
-      SameOrDeals currency (g .currency) (g′ .currency) → NoWorseGuarantee currency g g′
-  no-worse-guarantee p p′ f s m = record { before = p; after = p′; fields = f; step = s; currency = m }
+      SameOrBetter (g .provider .«sovereign_step») (g′ .provider .«sovereign_step») → SameOrDeals currency (g .currency) (g′ .currency) → NoWorseGuarantee currency g g′
+  no-worse-guarantee p p′ f s k m = record { before = p; after = p′; fields = f; step = s; «sovereign_step» = k; currency = m }
 
   same-guarantee : {g : Guarantee} → PlainGuarantee g → NoWorseGuarantee currency g g
-  same-guarantee p = no-worse-guarantee p p (omega arith) (inl refl) (inl refl)
+  same-guarantee p = no-worse-guarantee p p (omega arith) (inl refl) (inl refl) (inl refl)
 
   changed-guarantee : {g g′ : Guarantee} → BetterGuarantee currency g g′ → PlainGuarantee g → PlainGuarantee g′ → NoWorseGuarantee currency g g′
   changed-guarantee {g} (BetterItem.higher m new h) p p′ =
       each-of (λ k. getD (guaranteeFields g) k 0 < new → PlainGuarantee (changedGuarantee k new g) → NoWorseGuarantee currency g (changedGuarantee k new g))
-      ((λ h q. no-worse-guarantee p q (omega arith) (inl refl) (inl refl)), ((λ h q. no-worse-guarantee p q (omega arith) (inl refl) (inl refl)), ((λ h q. no-worse-guarantee p q (omega arith) (inl refl) (inl refl)), tt))) m h p′
+      ((λ h q. no-worse-guarantee p q (omega arith) (inl refl) (inl refl) (inl refl)), ((λ h q. no-worse-guarantee p q (omega arith) (inl refl) (inl refl) (inl refl)), ((λ h q. no-worse-guarantee p q (omega arith) (inl refl) (inl refl) (inl refl)), tt))) m h p′
   changed-guarantee {g} (BetterItem.smaller-step m new s) p p′ =
       each-of (λ k. SmallerStep (getD (guaranteeFields g) k 0) new → PlainGuarantee (changedGuarantee k new g) → NoWorseGuarantee currency g (changedGuarantee k new g))
-      ((λ h q. no-worse-guarantee p q (omega arith) (smaller h) (inl refl)), tt) m s p′
+      ((λ h q. no-worse-guarantee p q (omega arith) (smaller h) (inl refl) (inl refl)), ((λ h q. no-worse-guarantee p q (omega arith) (inl refl) (smaller h) (inl refl)), tt)) m s p′
   changed-guarantee {g} (BetterItem.deal-currency m) p p′ =
       each-of (λ k. PlainGuarantee (changedGuarantee k currency g) → NoWorseGuarantee currency g (changedGuarantee k currency g))
-      ((λ q. no-worse-guarantee p q (omega arith) (inl refl) (inr refl)), tt) m p′
+      ((λ q. no-worse-guarantee p q (omega arith) (inl refl) (inl refl) (inr refl)), tt) m p′
   changed-guarantee {g} (BetterItem.now-met m e) p p′ =
       each-of (λ k. getD (guaranteeFields g) k 0 ≡ 0 → PlainGuarantee (changedGuarantee k 1 g) → NoWorseGuarantee currency g (changedGuarantee k 1 g))
-      ((λ h q. no-worse-guarantee p q (omega arith) (inl refl) (inl refl)), ((λ h q. no-worse-guarantee p q (omega arith) (inl refl) (inl refl)), ((λ h q. no-worse-guarantee p q (omega arith) (inl refl) (inl refl)), tt))) m e p′
+      ((λ h q. no-worse-guarantee p q (omega arith) (inl refl) (inl refl) (inl refl)), ((λ h q. no-worse-guarantee p q (omega arith) (inl refl) (inl refl) (inl refl)), ((λ h q. no-worse-guarantee p q (omega arith) (inl refl) (inl refl) (inl refl)), tt))) m e p′
 
 -- Lists of items that pass a test
 

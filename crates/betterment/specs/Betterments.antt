@@ -1,4 +1,4 @@
--- Betterments of a deal, lists of them, and demand 3. 01: Betterments
+-- Betterments of a deal, lists of them, and demand 3. 01: Betterments; 02: L5
 use Prim.Native.Nat.{ℕ, _≤_, _<_}
 use mathlib.Core.Path.{_≡_}
 use mathlib.Core.Bool.{true, false}
@@ -25,12 +25,13 @@ pub data OneOf (place : ℕ) : List ℕ → Type 0 where
   later : {other : ℕ} {places : List ℕ} → OneOf place places → OneOf place (other ∷ places)
 
 -- of an item under a deal in this currency: "a higher amount, residual term or original term of an item; .. a smaller step, old and new
--- both 1 to 6, of an item ..; an item's currency made the deal's" (or it is so already); "an item's condition from 0 to 1"
+-- both 1 to 6, of an item ..; an item's currency made the deal's" (or it is so already); "an item's condition from 0 to 1"; "A better step of a
+-- guarantor's sovereign, between rated steps, joins the betterments" (02: L5)
 pub data BetterItem {A : Type 0} (numbers : A → List ℕ) (read : List ℕ → A) (places : Places) (currency : ℕ) : A → A → Type 0 where
   -- a higher amount, residual term or original term
   higher : {x : A} {place : ℕ} → OneOf place (places .higher) → (new : ℕ) → getD (numbers x) place 0 < new →
       BetterItem numbers read places currency x (changed numbers read place new x)
-  -- a smaller step, both rated
+  -- a smaller step, or one of a guarantor's sovereign, old and new both rated
   smaller-step : {x : A} {place : ℕ} → OneOf place (places .steps) → (new : ℕ) → SmallerStep (getD (numbers x) place 0) new →
       BetterItem numbers read places currency x (changed numbers read place new x)
   -- the deal's currency

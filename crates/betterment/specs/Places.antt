@@ -12,7 +12,7 @@ use Rattle.deal.specs.declared.guarantee.Guarantee.{Guarantee}
 pub record Places : Type 0 where
   -- "a higher amount, residual term or original term of an item"
   pub higher : List ℕ
-  -- "a smaller step, old and new both 1 to 6, of an item"
+  -- "a smaller step, old and new both 1 to 6, of an item"; "A better step of a guarantor's sovereign, between rated steps" (02: L5)
   pub steps : List ℕ
   -- "an item's currency made the deal's"
   pub currencies : List ℕ
@@ -41,25 +41,26 @@ abbrev pub guaranteePlaces : Places
 guaranteePlaces =
     let amount : ℕ = 0 in
     let step : ℕ = 2 in
-    let currency : ℕ = 3 in
-    let residual : ℕ = 4 in
-    let original : ℕ = 5 in
-    let lawful : ℕ = 6 in
-    let direct : ℕ = 7 in
-    let not-in-rating : ℕ = 8 in
+    let sovereign-step : ℕ = 3 in
+    let currency : ℕ = 4 in
+    let residual : ℕ = 5 in
+    let original : ℕ = 6 in
+    let lawful : ℕ = 7 in
+    let direct : ℕ = 8 in
+    let not-in-rating : ℕ = 9 in
     record {
       higher = amount ∷ residual ∷ original ∷ [];
-      steps = step ∷ [];
+      steps = step ∷ sovereign-step ∷ [];
       currencies = currency ∷ [];
       conditions = lawful ∷ direct ∷ not-in-rating ∷ [];
     }
 
 -- of the terms: the revaluation interval, and the step of the goods lent
 abbrev pub intervalPlace : ℕ
-intervalPlace = 5
+intervalPlace = 6
 
 abbrev pub lentStepPlace : ℕ
-lentStepPlace = 8
+lentStepPlace = 9
 
 -- "all else unchanged" (00, demand 3)
 abbrev pub changed : {A : Type 0} → (A → List ℕ) → (List ℕ → A) → ℕ → ℕ → A → A

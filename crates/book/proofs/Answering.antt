@@ -42,17 +42,17 @@ opening-terms (GuaranteeLine g) e = absurd (omega (arith, e))
 opening-terms Malformed e = absurd (omega (arith, e))
 
 -- a deal's answer from that line on
-pub opened-answer : (deal : DealLines) → openingRefusal (lineOf (deal .opening)) ≡ 0
-    → dealAnswer deal ≡ linesAnswer (deal .number) (deal .number + 1) (openedDeal (openingTerms (lineOf (deal .opening)))) (deal .further)
+pub opened-answer : (edition : ℕ) (deal : DealLines) → openingRefusal (lineOf edition (deal .opening)) ≡ 0
+    → dealAnswer edition deal ≡ linesAnswer (deal .number) (deal .number + 1) (openedDeal (openingTerms (lineOf edition (deal .opening)))) (deal .further)
 unfolding dealAnswer
-opened-answer deal e =
+opened-answer edition deal e =
     if-true _ _ _ (eq-eqb _ 0 e)
-    ∙ ap (λ d. linesAnswer (deal .number) (deal .number + 1) d (deal .further)) (opened-by (lineOf (deal .opening)))
+    ∙ ap (λ d. linesAnswer (deal .number) (deal .number + 1) d (deal .further)) (opened-by (lineOf edition (deal .opening)))
 
-pub unopened-answer : (deal : DealLines) → eqb (openingRefusal (lineOf (deal .opening))) 0 ≡ false
-    → dealAnswer deal ≡ openingRefusal (lineOf (deal .opening)) ∷ deal .number ∷ 0 ∷ []
+pub unopened-answer : (edition : ℕ) (deal : DealLines) → eqb (openingRefusal (lineOf edition (deal .opening))) 0 ≡ false
+    → dealAnswer edition deal ≡ openingRefusal (lineOf edition (deal .opening)) ∷ deal .number ∷ 0 ∷ []
 unfolding dealAnswer refusedAt
-unopened-answer deal e = if-false _ _ _ e
+unopened-answer edition deal e = if-false _ _ _ e
 
 -- no line takes a deal out of those that adding takes
 pub line-allowed : (d : Deal) (line : Line) → recordAllowed d ≡ true → recordAllowed (withLine d line) ≡ true
@@ -64,11 +64,15 @@ line-allowed d Malformed h = h
 
 -- from one more line
 module _ (opening number : ℕ) (d : Deal) (line : List ℕ) (lines : List (List ℕ)) where
-  pub accepted-line : eqb (lineRefusal d (lineOf line)) 0 ≡ true → linesAnswer opening number d (line ∷ lines) ≡ linesAnswer opening (number + 1) (withLine d (lineOf line)) lines
+  -- what it says
+  abbrev pub saidBy : Line
+  saidBy = lineOf (d .terms .edition) line
+
+  pub accepted-line : eqb (lineRefusal d saidBy) 0 ≡ true → linesAnswer opening number d (line ∷ lines) ≡ linesAnswer opening (number + 1) (withLine d saidBy) lines
   unfolding linesAnswer
   accepted-line e = if-true _ _ _ e
 
-  pub refused-line : eqb (lineRefusal d (lineOf line)) 0 ≡ false → linesAnswer opening number d (line ∷ lines) ≡ lineRefusal d (lineOf line) ∷ number ∷ 0 ∷ []
+  pub refused-line : eqb (lineRefusal d saidBy) 0 ≡ false → linesAnswer opening number d (line ∷ lines) ≡ lineRefusal d saidBy ∷ number ∷ 0 ∷ []
   unfolding linesAnswer refusedAt
   refused-line e = if-false _ _ _ e
 
@@ -78,32 +82,33 @@ unfolding linesAnswer reported
 no-more-lines opening number d h = if-true _ _ _ (eq-eqb _ 0 (accepted-unrefused d h))
 
 -- the answers to several deals
-pub no-answers : (serial : ℕ) → answersFrom serial [] ≡ []
+pub no-answers : (edition serial : ℕ) → answersFrom edition serial [] ≡ []
 unfolding answersFrom
-no-answers serial = refl
+no-answers edition serial = refl
 
-pub answers-more : (serial : ℕ) (deal : DealLines) (deals : List DealLines) → answersFrom serial (deal ∷ deals) ≡ serial ∷ (dealAnswer deal ++ answersFrom (serial + 1) deals)
+pub answers-more : (edition serial : ℕ) (deal : DealLines) (deals : List DealLines) → answersFrom edition serial (deal ∷ deals) ≡ serial ∷ (dealAnswer edition deal ++ answersFrom edition (serial + 1) deals)
 unfolding answersFrom
-answers-more serial deal deals = refl
+answers-more edition serial deal deals = refl
 
 -- a deal's answer is three numbers behind its serial
 lines-three : (opening number : ℕ) (d : Deal) (lines : List (List ℕ)) → length (linesAnswer opening number d lines) ≡ 3
 unfolding linesAnswer reported refusedAt
 lines-three opening number d [] = either (λ (l : List ℕ). length l ≡ 3) (eqb (reportRefusal d) 0) (λ e. refl) (λ e. refl)
 lines-three opening number d (line ∷ lines) =
-    either (λ (l : List ℕ). length l ≡ 3) (eqb (lineRefusal d (lineOf line)) 0) (λ e. lines-three opening (number + 1) (withLine d (lineOf line)) lines) (λ e. refl)
+    either (λ (l : List ℕ). length l ≡ 3) (eqb (lineRefusal d (lineOf (d .terms .edition) line)) 0) (λ e. lines-three opening (number + 1) (withLine d (lineOf (d .terms .edition) line)) lines) (λ e. refl)
 
-deal-three : (deal : DealLines) → length (dealAnswer deal) ≡ 3
-unfolding dealAnswer
-deal-three deal = go (eqb (openingRefusal (lineOf (deal .opening))) 0) refl
-  where
-    go : (t : Bool) → eqb (openingRefusal (lineOf (deal .opening))) 0 ≡ t → length (dealAnswer deal) ≡ 3
-    go true e = ap length (if-true _ _ _ e) ∙ lines-three (deal .number) (deal .number + 1) (openedBy (lineOf (deal .opening))) (deal .further)
-    go false e = ap length (unopened-answer deal e)
+module _ (edition : ℕ) where
+  deal-three : (deal : DealLines) → length (dealAnswer edition deal) ≡ 3
+  unfolding dealAnswer
+  deal-three deal = go (eqb (openingRefusal (lineOf edition (deal .opening))) 0) refl
+    where
+      go : (t : Bool) → eqb (openingRefusal (lineOf edition (deal .opening))) 0 ≡ t → length (dealAnswer edition deal) ≡ 3
+      go true e = ap length (if-true _ _ _ e) ∙ lines-three (deal .number) (deal .number + 1) (openedBy (lineOf edition (deal .opening))) (deal .further)
+      go false e = ap length (unopened-answer edition deal e)
 
-pub answers-long : (serial : ℕ) (deals : List DealLines) → length (answersFrom serial deals) ≡ 4 * length deals
-answers-long serial [] = ap length (no-answers serial)
-answers-long serial (deal ∷ deals) =
-    let more = length-append (dealAnswer deal) (answersFrom (serial + 1) deals) in
-    let rest = answers-long (serial + 1) deals in
-    ap length (answers-more serial deal deals) ∙ omega (arith, deal-three deal, more, rest)
+  pub answers-long : (serial : ℕ) (deals : List DealLines) → length (answersFrom edition serial deals) ≡ 4 * length deals
+  answers-long serial [] = ap length (no-answers edition serial)
+  answers-long serial (deal ∷ deals) =
+      let more = length-append (dealAnswer edition deal) (answersFrom edition (serial + 1) deals) in
+      let rest = answers-long (serial + 1) deals in
+      ap length (answers-more edition serial deal deals) ∙ omega (arith, deal-three deal, more, rest)

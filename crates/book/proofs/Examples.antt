@@ -11,7 +11,6 @@ use Rattle.text.specs.Bytes.{byte, bytes}
 use Rattle.text.specs.Decimal.{decimalFrom}
 use Rattle.text.specs.Text.{tab, startsWith, sameBytes, extendFirst, linesOf, firstLine}
 use Rattle.text.proofs.Bytes.{only}
-use Rattle.deal.specs.Fields.{collateralIn, guaranteeIn, termsIn}
 use Rattle.deal.specs.Opening.{openedDeal}
 use Rattle.deal.specs.Adding.{addCollateralTests, addCollateralRefusal, withCollateral, addGuaranteeTests, addGuaranteeRefusal, withGuarantee}
 use Rattle.deal.specs.Collateral.{collateralListTests}
@@ -20,6 +19,7 @@ use Rattle.relief.specs.Report.{reportRefusal}
 use Rattle.relief.proofs.Computed.{computed}
 use Rattle.lines.specs.Numbers.{digitsOf, numberAllowed, numberRead, numberOf}
 use Rattle.lines.specs.Fields.{fieldOf, isEnd, andThen, withNumber, fieldsOf}
+use Rattle.lines.specs.Sovereign.{widthUnder, withSovereign}
 use Rattle.lines.specs.Lines.{dealLine, collateralLine, guaranteeLine, ifRead, lineOf}
 use Rattle.book.specs.Deals.{opensDeal, ownLines, dealsFrom}
 use Rattle.book.specs.Answers.{openingRefusal, openedBy, lineRefusal, withLine, refusedAt, reported, linesAnswer, dealAnswer, answersFrom}
@@ -30,7 +30,7 @@ use Rattle.book.specs.declared.reply.BookReply.{BookReply}
 
 -- `unfolding worked` opens every definition that an answer comes from
 unfoldable pub worked : List ℕ → List ℕ → List ℕ
-unfolding computed openedDeal reportRefusal collateralListTests guaranteeListTests addCollateralTests addCollateralRefusal withCollateral addGuaranteeTests addGuaranteeRefusal withGuarantee firstOr within if_then_else_ startsWith sameBytes extendFirst linesOf firstLine decimalFrom digitsOf numberAllowed numberRead numberOf fieldOf isEnd andThen withNumber fieldsOf dealLine collateralLine guaranteeLine ifRead lineOf ownLines dealsFrom openingRefusal openedBy lineRefusal withLine refusedAt reported linesAnswer dealAnswer answersFrom headingOf bookTests bookRefusal answeredDeals bookReply resultsAfter
+unfolding computed openedDeal reportRefusal collateralListTests guaranteeListTests addCollateralTests addCollateralRefusal withCollateral addGuaranteeTests addGuaranteeRefusal withGuarantee firstOr within if_then_else_ startsWith sameBytes extendFirst linesOf firstLine decimalFrom digitsOf numberAllowed numberRead numberOf fieldOf isEnd andThen withNumber fieldsOf widthUnder withSovereign dealLine collateralLine guaranteeLine ifRead lineOf ownLines dealsFrom openingRefusal openedBy lineRefusal withLine refusedAt reported linesAnswer dealAnswer answersFrom headingOf bookTests bookRefusal answeredDeals bookReply resultsAfter
 worked book before = resultsAfter book before
 
 abbrev pub example : List ℕ
@@ -44,10 +44,10 @@ example-answered : resultsAfter example (replicate 13 7) ≡ 1 ∷ 0 ∷ 611314 
 unfolding worked
 example-answered = refl
 
--- first lines: the right one; without a line feed, with a carriage return, none, with another number
+-- first lines: the right ones; without a line feed, with a carriage return, none; with another number, or more of it
 headings-read :
-    map headingOf (bytes "CRM\t1\n" ∷ bytes "CRM\t1" ∷ bytes "CRM\t1\r\n" ∷ bytes "" ∷ bytes "CRM\t2\n" ∷ [])
-    ≡ Edition 1 ∷ Wrong ∷ Wrong ∷ Wrong ∷ Wrong ∷ []
+    map headingOf (bytes "CRM\t1\n" ∷ bytes "CRM\t2\n" ∷ bytes "CRM\t1" ∷ bytes "CRM\t2" ∷ bytes "CRM\t1\r\n" ∷ bytes "CRM\t2\r\n" ∷ bytes "" ∷ bytes "CRM\t0\n" ∷ bytes "CRM\t3\n" ∷ bytes "CRM\t02\n" ∷ bytes "CRM\t22\n" ∷ bytes "CRM\t2\t\n" ∷ bytes "CRM\t\n" ∷ [])
+    ≡ Edition 1 ∷ Edition 2 ∷ replicate 11 Wrong
 unfolding worked
 headings-read = refl
 
@@ -68,7 +68,7 @@ books-refused :
     bytes ""
     ∷ bytes "CRM\t1"
     ∷ bytes "CRM\t1\r\n"
-    ∷ bytes "CRM\t2\n"
+    ∷ bytes "CRM\t4\n"
     ∷ bytes "CRM\t1\nC\t0\n"
     ∷ bytes "CRM\t1\n\n"
     ∷ bytes "CRM\t1\nD\n"
@@ -119,6 +119,48 @@ unfolding worked
 limit-of-bytes = (refl, refl)
 
 -- a wrong first line is answered before a wrong second one, and before a list that is too short
-nine-first : map (λ book. bookReply book 0) (bytes "CRM\t2\nC\n" ∷ bytes "\n\n" ∷ bytes "CRM\t2\nD\t\n" ∷ []) ≡ refusedBy 9 ∷ refusedBy 9 ∷ refusedBy 9 ∷ []
+nine-first : map (λ book. bookReply book 0) (bytes "CRM\t4\nC\n" ∷ bytes "\n\n" ∷ bytes "CRM\t4\nD\t\n" ∷ []) ≡ refusedBy 9 ∷ refusedBy 9 ∷ refusedBy 9 ∷ []
 unfolding worked
 nine-first = refl
+
+-- THE SECOND HEADING. 02: L5
+
+-- the example of 01 with the sovereigns' steps of its parties, 1 each: nothing changes but where a floor binds
+abbrev pub example-2 : List ℕ
+example-2 =
+    bytes "CRM\t2\nD\t1000000\t3\t0\t1\t978\t3\t1\t1800\t1\t0\t0\n"
+    ++ bytes "C\t400000\t2\t1\t720\t978\t1800\t1800\t1\t1\t1\t0\n"
+    ++ bytes "G\t200000\t1\t1\t0\t978\t1800\t1800\t1\t1\t1\n"
+    ++ bytes "D\t500\t2\t7\t1\t840\t1\t1\t30\t1\t0\t0\nD\t900\t4\t0\t0\t978\t3\t1\t90\t1\t0\t0\n"
+
+example-2-answered : resultsAfter example-2 (replicate 13 7) ≡ resultsAfter example (replicate 13 7)
+unfolding worked
+example-2-answered = refl
+
+-- an unrated bank under a sovereign of step 6, backed by one under a sovereign of step 4: 150 and 100; and the same deal headed 1. Its lines
+-- under the other heading are malformed; a step that is not 0 where 0 is due is 3, at its line
+abbrev floor-1 : List ℕ
+floor-1 = bytes "D\t1000\t2\t0\t978\t3\t1\t1800\t1\t0\t0\nG\t600\t2\t0\t978\t1800\t1800\t1\t1\t1\n"
+
+abbrev floor-2 : List ℕ
+floor-2 = bytes "D\t1000\t2\t0\t6\t978\t3\t1\t1800\t1\t0\t0\nG\t600\t2\t0\t4\t978\t1800\t1800\t1\t1\t1\n"
+
+headed :
+    map (λ book. resultsAfter book (replicate 4 7)) (
+    (bytes "CRM\t1\n" ++ floor-1)
+    ∷ (bytes "CRM\t2\n" ++ floor-2)
+    ∷ (bytes "CRM\t2\n" ++ floor-1)
+    ∷ (bytes "CRM\t1\n" ++ floor-2)
+    ∷ bytes "CRM\t2\nD\t1000\t4\t0\t1\t978\t3\t1\t1800\t1\t0\t0\n"
+    ∷ bytes "CRM\t2\nD\t1000\t2\t0\t6\t978\t3\t1\t1800\t1\t0\t0\nG\t600\t1\t0\t4\t978\t1800\t1800\t1\t1\t1\n"
+    ∷ []
+    )
+    ≡ (1 ∷ 0 ∷ 1000 ∷ 500 ∷ [])
+    ∷ (1 ∷ 0 ∷ 1000 ∷ 1200 ∷ [])
+    ∷ (1 ∷ 11 ∷ 2 ∷ 0 ∷ [])
+    ∷ (1 ∷ 11 ∷ 2 ∷ 0 ∷ [])
+    ∷ (1 ∷ 3 ∷ 2 ∷ 0 ∷ [])
+    ∷ (1 ∷ 3 ∷ 3 ∷ 0 ∷ [])
+    ∷ []
+unfolding worked
+headed = refl

@@ -99,7 +99,7 @@ module _ (text : List ℕ) (start number : ℕ) (t : Terms) where
         ∙ componentwise refl (exposure-of (tableFor t) d a) (rwa-of (tableFor t) d a)
 
     module _ (end : ℕ) (l : OwnLine text at end) (e : end ≡ at + length (firstLine (drop at text))) {refusal : ℕ} {cs′ : CollateralList} {gs′ : GuaranteeList}
-        (done : LineDone t cs gs (lineOf (firstLine (drop at text))) refusal cs′ gs′) where
+        (done : LineDone t cs gs (lineOf (t .edition) (firstLine (drop at text))) refusal cs′ gs′) where
       -- with the next line
       from-line : whole ≡ linesAnswer number next (dealOf t cs gs) (firstLine (drop at text) ∷ ownLines (linesOf (drop (at + length (firstLine (drop at text))) text)))
       from-line = h .answered ∙ ap (linesAnswer number next (dealOf t cs gs)) (own-next text at (l .here) (l .opens))
@@ -113,7 +113,7 @@ module _ (text : List ℕ) (start number : ℕ) (t : Terms) where
       pub held-next : refusal ≡ 0 → Held cs′ gs′ end (next + 1)
       held-next r = record {
         passed = passed-line text start (number + 1) at next (h .passed) end l e;
-        fits = ap recordAllowed (done .held) ∙ line-allowed (dealOf t cs gs) (lineOf (firstLine (drop at text))) (h .fits);
+        fits = ap recordAllowed (done .held) ∙ line-allowed (dealOf t cs gs) (lineOf (t .edition) (firstLine (drop at text))) (h .fits);
         answered =
             from-line
             ∙ accepted-line number next (dealOf t cs gs) (firstLine (drop at text)) _ (eq-eqb _ 0 (done .refused ∙ r))

@@ -1,6 +1,7 @@
 -- Laws of a book's refusals. Assumes nothing.
 use Prim.Native.Nat.{ℕ, _*_, _≤_}
 use mathlib.Core.Path.{_≡_, refl, _∙_, ap}
+use mathlib.Core.Logic.{_⊎_, inl, inr, ⊎-elim}
 use mathlib.Core.Bool.{Bool, true, false, not, _&&_}
 use mathlib.Core.List.{List, [], _∷_}
 use native.Mathlib.Omega.{arith}
@@ -16,22 +17,27 @@ use Rattle.text.proofs.Equal.{same-equal}
 use Rattle.text.proofs.Lines.{lines-first, no-lines}
 use Rattle.book.specs.Deals.{opensDeal}
 use Rattle.book.specs.Answers.{answersFrom}
-use Rattle.book.specs.Heading.{header, headingOf, isWrong}
+use Rattle.book.specs.Heading.{editionOf, firstHeader, headingOf, isWrong, secondHeader}
 use Rattle.book.specs.Start.{ownFirst}
-use Rattle.book.specs.Book.{bookTests, bookRefusal, dealsOf, answeredDeals, refusedReply, bookReply, resultsAfter}
+use Rattle.book.specs.Book.{bookEdition, bookTests, bookRefusal, dealsOf, answeredDeals, refusedReply, bookReply, resultsAfter}
 use Rattle.base.specs.Writing.{overwrite}
 use Rattle.book.proofs.Grouping.{opens-first}
 use Rattle.book.proofs.Answering.{no-answers}
 
--- a first line that is not wrong is the one asked for, byte for byte
-pub heading-right : (line : List ℕ) → isWrong (headingOf line) ≡ false → line ≡ header
+-- a first line that is not wrong is one of those asked for, byte for byte, and says its edition
+pub heading-right : (line : List ℕ) → isWrong (headingOf line) ≡ false →
+    ((line ≡ firstHeader) × (editionOf (headingOf line) ≡ 1)) ⊎ ((line ≡ secondHeader) × (editionOf (headingOf line) ≡ 2))
 unfolding headingOf
 heading-right line =
-    either (λ h. isWrong h ≡ false → line ≡ header) (sameBytes line header) (λ e h. same-equal line header e) (λ e h. absurd (never refl h))
+    either (λ h. isWrong h ≡ false → ((line ≡ firstHeader) × (editionOf h ≡ 1)) ⊎ ((line ≡ secondHeader) × (editionOf h ≡ 2))) (sameBytes line firstHeader)
+    (λ e h. inl (same-equal line firstHeader e, refl))
+    (λ _. either (λ h. isWrong h ≡ false → ((line ≡ firstHeader) × (editionOf h ≡ 1)) ⊎ ((line ≡ secondHeader) × (editionOf h ≡ 2))) (sameBytes line secondHeader)
+    (λ e h. inr (same-equal line secondHeader e, refl))
+    (λ e h. absurd (never refl h)))
 
 -- so it has some bytes, and the lines behind it can be numbered
 pub heading-long : (line : List ℕ) → isWrong (headingOf line) ≡ false → 2 ≤ length line
-heading-long line h = omega (arith, ap length (heading-right line h))
+heading-long line h = ⊎-elim (λ e. omega (arith, ap length (e .0))) (λ e. omega (arith, ap length (e .0))) (heading-right line h)
 
 -- the first line behind the heading opens no deal
 pub second-wrong : (text : List ℕ) → not (allPass (take 1 (linesOf text)) opensDeal) ≡ ownFirst text
@@ -87,7 +93,7 @@ unfolding bookTests
 enough book places e = ltb-false places (4 * length (dealsOf book)) (accepted-tests book places e .1 .1 .1 .0)
 
 -- the list afterwards; after a refusal, and after none
-pub results-made : (book before : List ℕ) → resultsAfter book before ≡ overwrite (answersFrom 1 (answeredDeals book (length before))) before
+pub results-made : (book before : List ℕ) → resultsAfter book before ≡ overwrite (answersFrom (bookEdition book) 1 (answeredDeals book (length before))) before
 unfolding resultsAfter
 results-made book before = refl
 
@@ -97,7 +103,7 @@ refused-results book before e =
     let none = none-answered book (length before) e in
     rw (none, no-answers)
 
-pub accepted-results : (book before : List ℕ) → bookRefusal book (length before) ≡ 0 → resultsAfter book before ≡ overwrite (answersFrom 1 (dealsOf book)) before
+pub accepted-results : (book before : List ℕ) → bookRefusal book (length before) ≡ 0 → resultsAfter book before ≡ overwrite (answersFrom (bookEdition book) 1 (dealsOf book)) before
 unfolding resultsAfter
 accepted-results book before e =
     let every = all-answered book (length before) (ap (λ n. eqb n 0) e) in

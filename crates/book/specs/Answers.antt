@@ -1,4 +1,5 @@
--- The answers to the deals of a book. 01: The book; Adding an item, "A refused line leaves the deal as it was before it"
+-- The answers to the deals of a book. 01: The book; Adding an item, "A refused line leaves the deal as it was before it"; 02: L5, "Opening is
+-- given what the header says with the deal's own fields"
 use Prim.Native.Nat.{ℕ, _+_}
 use mathlib.Core.List.{List, [], _∷_, _++_}
 use lib.Dec.{eqb}
@@ -64,22 +65,23 @@ unfoldable pub reported : ℕ → Deal → List ℕ
 reported opening d = if eqb (reportRefusal d) 0 then figuresOf d else refusedAt (reportRefusal d) opening
 
 -- "A deal with a refused line is answered by the first one": a deal opened by the line with the first number, and the lines that follow,
--- the first of which has the second
+-- the first of which has the second. They read by the edition that the deal holds
 unfoldable pub linesAnswer : ℕ → ℕ → Deal → List (List ℕ) → List ℕ
 linesAnswer opening number d [] = reported opening d
 linesAnswer opening number d (line ∷ lines) =
-    let refusal = lineRefusal d (lineOf line) in
-    if eqb refusal 0 then linesAnswer opening (number + 1) (withLine d (lineOf line)) lines else refusedAt refusal number
+    let said = lineOf (d .terms .edition) line in
+    let refusal = lineRefusal d said in
+    if eqb refusal 0 then linesAnswer opening (number + 1) (withLine d said) lines else refusedAt refusal number
 
--- the line that opens it, then its further lines
-unfoldable pub dealAnswer : DealLines → List ℕ
-dealAnswer deal =
-    let line = lineOf (deal .opening) in
+-- in a book headed by this edition, the line that opens it, then its further lines
+unfoldable pub dealAnswer : ℕ → DealLines → List ℕ
+dealAnswer edition deal =
+    let line = lineOf edition (deal .opening) in
     if eqb (openingRefusal line) 0
     then linesAnswer (deal .number) (deal .number + 1) (openedBy line) (deal .further)
     else refusedAt (openingRefusal line) (deal .number)
 
 -- "The four numbers: serial from 1; .."
-unfoldable pub answersFrom : ℕ → List DealLines → List ℕ
-answersFrom serial [] = []
-answersFrom serial (deal ∷ deals) = serial ∷ (dealAnswer deal ++ answersFrom (serial + 1) deals)
+unfoldable pub answersFrom : ℕ → ℕ → List DealLines → List ℕ
+answersFrom edition serial [] = []
+answersFrom edition serial (deal ∷ deals) = serial ∷ (dealAnswer edition deal ++ answersFrom edition (serial + 1) deals)

@@ -1,7 +1,7 @@
 -- Answering a book. 01: The four operations, Answering a book; The book
 use Prim.Native.Nat.{ℕ, _*_}
 use mathlib.Core.Bool.{not}
-use mathlib.Core.List.{List, [], _∷_, _++_}
+use mathlib.Core.List.{List, [], _∷_}
 use lib.Dec.{eqb, ltb}
 use lib.ListN.{drop, length, take}
 use Rattle.base.specs.All.{allPass}
@@ -11,12 +11,16 @@ use Rattle.base.specs.FirstMet.{Test, _when_, firstMet}
 use Rattle.text.specs.Text.{firstLine, linesOf}
 use Rattle.book.specs.Deals.{DealLines, opensDeal, dealsFrom}
 use Rattle.book.specs.Answers.{answersFrom}
-use Rattle.book.specs.Heading.{headingOf, isWrong}
+use Rattle.book.specs.Heading.{editionOf, headingOf, isWrong}
 use Rattle.book.specs.declared.reply.BookReply.{BookReply}
 
 -- in bytes
 abbrev pub bookLimit : ℕ
 bookLimit = 65536
+
+-- the edition that the first line says
+abbrev pub bookEdition : List ℕ → ℕ
+bookEdition book = editionOf (headingOf (firstLine book))
 
 -- what stands behind the first line, and its lines
 abbrev pub textBehind : List ℕ → List ℕ
@@ -55,4 +59,4 @@ bookReply book places = record { refusal = bookRefusal book places; deals = leng
 
 -- the results list afterwards: "four numbers a deal"; refusals "leave the list untouched"
 unfoldable pub resultsAfter : List ℕ → List ℕ → List ℕ
-resultsAfter book before = overwrite (answersFrom 1 (answeredDeals book (length before))) before
+resultsAfter book before = overwrite (answersFrom (bookEdition book) 1 (answeredDeals book (length before))) before

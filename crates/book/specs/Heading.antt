@@ -1,4 +1,4 @@
--- What the first line of a book says. 01: The book; Answering a book
+-- What the first line of a book says. 01: The book; Answering a book; 02: L5
 use Prim.Native.Nat.{ℕ}
 use mathlib.Core.Bool.{Bool, true, false}
 use mathlib.Core.List.{List}
@@ -9,13 +9,25 @@ use Rattle.book.specs.declared.heading.Heading.{Heading}
 use Rattle.book.specs.declared.heading.Heading.the-variants.{Edition, Wrong}
 
 -- "The first line is the five bytes C, R, M, tab, 1 and its line feed"
-abbrev pub header : List ℕ
-header = bytes "CRM\t1\n"
+abbrev pub firstHeader : List ℕ
+firstHeader = bytes "CRM\t1\n"
+
+-- "The header's second field becomes 2"
+abbrev pub secondHeader : List ℕ
+secondHeader = bytes "CRM\t2\n"
 
 unfoldable pub headingOf : List ℕ → Heading
-headingOf line = if sameBytes line header then Edition 1 else Wrong
+headingOf line =
+    if sameBytes line firstHeader then Edition 1 else
+    if sameBytes line secondHeader then Edition 2 else
+    Wrong
 
 -- "9 first line wrong"
 abbrev pub isWrong : Heading → Bool
 isWrong (Edition number) = false
 isWrong Wrong = true
+
+-- the edition that it says, and 0 where it is wrong
+abbrev pub editionOf : Heading → ℕ
+editionOf (Edition number) = number
+editionOf Wrong = 0

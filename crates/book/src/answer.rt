@@ -9,6 +9,7 @@ ghost use Rattle.book.specs.Book.{bookReply, resultsAfter};
 ghost use Rattle.base.specs.Writing.{overwrite};
 ghost use Rattle.book.specs.Deals.{dealsFrom};
 ghost use Rattle.book.specs.Start.{ownFirst};
+use crate::heading::read_heading;
 use crate::reading::answer_deal;
 use crate::reply::BookReply;
 use crate::reply::reply_to;
@@ -16,17 +17,17 @@ use crate::results::put_answer;
 use relief::factors::TimeFactors;
 use text::line_end;
 
-// The answers to the deals among a book's lines, from the front of the list.
-fn answer_deals(lines: &[u8], results: &mut [u64])
+// The answers to the deals among the lines of a book headed by this edition, from the front of the list.
+fn answer_deals(edition: u64, lines: &[u8], results: &mut [u64])
     requires { ⌜ (ownFirst (now lines) ≡ false) × ((2 + length (now lines) ≤ 65536) × (4 * length (dealsFrom 2 (linesOf (now lines))) ≤ length (now results))) ⌝ }
-    ensures { λ _. ⌜ now (results .exit) ≡ overwrite (answersFrom 1 (dealsFrom 2 (linesOf (now (lines .entry))))) (now (results .entry)) ⌝ }
+    ensures { λ _. ⌜ now (results .exit) ≡ overwrite (answersFrom edition 1 (dealsFrom 2 (linesOf (now (lines .entry))))) (now (results .entry)) ⌝ }
 {
     let mut at: usize = 0;
     let mut number: u64 = 2;
     let mut factors = TimeFactors::NONE;
     let mut deals: usize = 0;
     while at < lines.len() {
-        let answered = answer_deal(&lines[at..], number, factors);
+        let answered = answer_deal(edition, &lines[at..], number, factors);
         let answer = answered.answer;
         put_answer(
             results,
@@ -52,6 +53,7 @@ pub fn answer_book(book: &[u8], results: &mut [u64]) -> BookReply
         return reply;
     }
     let at = line_end(book, 0);
-    answer_deals(&book[at..], results);
+    let heading = read_heading(&book[..at]);
+    answer_deals(heading.edition(), &book[at..], results);
     reply
 }

@@ -1,11 +1,11 @@
 // The heading of a book: its first line.
 ghost use mathlib.Core.Path.{_≡_};
-ghost use Rattle.book.specs.Heading.{headingOf, isWrong};
+ghost use Rattle.book.specs.Heading.{editionOf, headingOf, isWrong};
 use text::same;
 
 // What the first line says.
 pub enum Heading {
-    // The number in its second field, of which there is one.
+    // The number in its second field.
     Edition(u64),
     Wrong,
 }
@@ -19,6 +19,16 @@ impl Heading {
             Heading::Wrong => true,
         }
     }
+
+    // The edition that it says, 0 where it is wrong.
+    pub fn edition(self) -> u64
+        ensures { λ r. ⌜ r ≡ editionOf self ⌝ }
+    {
+        match self {
+            Heading::Edition(number) => number,
+            Heading::Wrong => 0,
+        }
+    }
 }
 
 // A first line, with its line feed, if it has one.
@@ -27,6 +37,9 @@ pub fn read_heading(line: &[u8]) -> Heading
 {
     if same(line, b"CRM\t1\n") {
         return Heading::Edition(1);
+    }
+    if same(line, b"CRM\t2\n") {
+        return Heading::Edition(2);
     }
     Heading::Wrong
 }

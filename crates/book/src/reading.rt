@@ -106,7 +106,7 @@ fn with_items(
     let mut next = number + 1;
     while own_line(text, at) {
         let end = line_end(text, at);
-        let line = read_line(&text[at..end]);
+        let line = read_line(terms.edition, &text[at..end]);
         let mut refusal = MALFORMED;
         match line {
             Line::CollateralLine(item) => {
@@ -148,15 +148,15 @@ fn opened(text: &[u8], start: usize, number: u64, terms: Terms, factors: TimeFac
     with_figures(amounts.exposure, amounts.rwa, start, number + 1)
 }
 
-// The answer to the deal that a text starts with, given some time factors.
-pub fn answer_deal(text: &[u8], number: u64, factors: TimeFactors) -> ResultAndFactors
+// The answer to the deal that a text starts with, in a book headed by this edition, given some time factors.
+pub fn answer_deal(edition: u64, text: &[u8], number: u64, factors: TimeFactors) -> ResultAndFactors
     requires { ⌜ (opensDeal (now text) ≡ true) × (number + length (now text) ≤ 65536) ⌝ }
     requires { ⌜ BothTimeFactors factors ⌝ }
-    ensures { λ r. ⌜ DealRead number (now (text .entry)) (r .answer .end) (r .answer .next) × (dealAnswer (firstDeal number (now (text .entry))) ≡ r .answer .refusal ∷ r .answer .figure ∷ r .answer .rwa ∷ []) ⌝ }
+    ensures { λ r. ⌜ DealRead number (now (text .entry)) (r .answer .end) (r .answer .next) × (dealAnswer edition (firstDeal number (now (text .entry))) ≡ r .answer .refusal ∷ r .answer .figure ∷ r .answer .rwa ∷ []) ⌝ }
     ensures { λ r. ⌜ BothTimeFactors (r .factors) ⌝ }
 {
     let end = line_end(text, 0);
-    let line = read_line(&text[..end]);
+    let line = read_line(edition, &text[..end]);
     let refusal = opening_refusal(line);
     if refusal != 0 {
         let answer = refused(text, end, number, refusal);

@@ -58,15 +58,15 @@ lines-answered : (opening number : ℕ) (d : Deal) (lines : List (List ℕ)) →
 unfolding linesAnswer
 lines-answered opening number d [] h = let a = allowed-accepted d h in byReport d a (no-more-lines opening number d a)
 lines-answered opening number d (line ∷ lines) h =
-    either AnsweredBy (eqb (lineRefusal d (lineOf line)) 0)
-    (λ e. lines-answered opening (number + 1) (withLine d (lineOf line)) lines (line-allowed d (lineOf line) h))
-    (λ e. byLine (lineRefusal d (lineOf line)) number refl e (line-not-40 d (lineOf line) h))
+    either AnsweredBy (eqb (lineRefusal d (lineOf (d .terms .edition) line)) 0)
+    (λ e. lines-answered opening (number + 1) (withLine d (lineOf (d .terms .edition) line)) lines (line-allowed d (lineOf (d .terms .edition) line) h))
+    (λ e. byLine (lineRefusal d (lineOf (d .terms .edition) line)) number refl e (line-not-40 d (lineOf (d .terms .edition) line) h))
 
 -- so no answer in a book has refusal 40, and none that has refusal 0 reports a record that is not accepted
-pub each-answered : (deal : DealLines) → AnsweredBy (dealAnswer deal)
+pub each-answered : (edition : ℕ) (deal : DealLines) → AnsweredBy (dealAnswer edition deal)
 unfolding dealAnswer
-each-answered deal =
-    let line = lineOf (deal .opening) in
+each-answered edition deal =
+    let line = lineOf edition (deal .opening) in
     either AnsweredBy (eqb (openingRefusal line) 0)
     (λ e. lines-answered (deal .number) (deal .number + 1) (openedBy line) (deal .further) (opening-allowed line e))
     (λ e. byLine (openingRefusal line) (deal .number) refl e (opening-not-40 line))

@@ -25,9 +25,9 @@ linesIn text = length (linesOf text)
 abbrev pub StartsDeal : List ℕ → Type 0
 StartsDeal text = allPass (take 1 (linesOf text)) opensDeal ≡ true
 
--- the answers to the deals of a text, where the first deal has this serial, and the text's first line this number
-abbrev pub answersTo : ℕ → ℕ → List ℕ → List ℕ
-answersTo serial number text = answersFrom serial (dealsFrom number (linesOf text))
+-- the answers to the deals of a text under an edition, where the first deal has this serial, and the text's first line this number
+abbrev pub answersTo : ℕ → ℕ → ℕ → List ℕ → List ℕ
+answersTo edition serial number text = answersFrom edition serial (dealsFrom number (linesOf text))
 
 -- whether a text ends in a line feed or is empty, so that what follows it starts a line
 unfoldable pub ended : List ℕ → Bool

@@ -1,22 +1,13 @@
 -- Terms and items and the numbers that are sent for them: one is read from the other and written back unchanged. Assumes nothing.
-use Prim.Native.Nat.{ℕ, zero, suc}
-use mathlib.Core.Path.{_≡_, refl, ap}
-use mathlib.Core.List.{List, [], _∷_}
-use native.Mathlib.Omega.{arith}
-use lib.ListN.{length, getD}
+use Prim.Native.Nat.{ℕ}
+use mathlib.Core.Path.{_≡_, refl}
+use mathlib.Core.List.{List}
+use lib.ListN.{length}
+use Rattle.base.proofs.Arrays.{as-read}
 use Rattle.deal.specs.Fields.{collateralFields, collateralIn, collateralWidth, guaranteeFields, guaranteeIn, guaranteeWidth, termsFields, termsIn, termsWidth}
 use Rattle.deal.specs.declared.terms.Terms.{Terms}
 use Rattle.deal.specs.declared.collateral.Collateral.{Collateral}
 use Rattle.deal.specs.declared.guarantee.Guarantee.{Guarantee}
-
--- the numbers in so many places, from the front
-abbrev numbered : ℕ → (ℕ → ℕ) → List ℕ
-numbered zero number = []
-numbered (suc n) number = number 0 ∷ numbered n (λ k. number (suc k))
-
-as-read : (ns : List ℕ) → numbered (length ns) (λ k. getD ns k 0) ≡ ns
-as-read [] = refl
-as-read (n ∷ ns) = ap (λ (l : List ℕ). n ∷ l) (as-read ns)
 
 pub terms-back : (t : Terms) → termsIn (termsFields t) ≡ t
 terms-back t = refl

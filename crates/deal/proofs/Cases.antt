@@ -7,7 +7,7 @@ use lib.ListN.{replicate}
 use Rattle.base.specs.Choice.{if_then_else_}
 use Rattle.base.specs.FirstMet.{firstOr}
 use Rattle.base.specs.Range.{within}
-use Rattle.deal.specs.Parties.{partyStepAllowed}
+use Rattle.deal.specs.Parties.{partyStepAllowed, partyStepsAllowed, sovereignStepAllowed}
 use Rattle.deal.specs.Assets.{assetStepAllowed, lifeAllowed}
 use Rattle.deal.specs.Fields.{termsIn, collateralIn, guaranteeIn, zeroCollateral, zeroGuarantee, zeroTerms}
 use Rattle.deal.specs.Terms.{termsTests, termsRefusal}
@@ -22,14 +22,15 @@ use Rattle.deal.specs.declared.deal.Deal.{Deal}
 
 -- each number is the field that the paper names in its place
 fields-in-place :
-    (termsIn (0 ∷ 1 ∷ 2 ∷ 3 ∷ 4 ∷ 5 ∷ 6 ∷ 7 ∷ 8 ∷ 9 ∷ []) ≡ record {
+    (termsIn (0 ∷ 1 ∷ 2 ∷ 3 ∷ 4 ∷ 5 ∷ 6 ∷ 7 ∷ 8 ∷ 9 ∷ 10 ∷ 11 ∷ []) ≡ record {
       amount = 0;
-      counterparty = record { class = 1; step = 2 };
-      currency = 3;
-      kind = 4;
-      interval = 5;
-      residual = 6;
-      lent = record { goods = 7; step = 8; life = 9 };
+      counterparty = record { class = 1; step = 2; «sovereign_step» = 3 };
+      currency = 4;
+      kind = 5;
+      interval = 6;
+      residual = 7;
+      lent = record { goods = 8; step = 9; life = 10 };
+      edition = 11;
     })
     × ((collateralIn (0 ∷ 1 ∷ 2 ∷ 3 ∷ 4 ∷ 5 ∷ 6 ∷ 7 ∷ 8 ∷ 9 ∷ 10 ∷ []) ≡ record {
       amount = 0;
@@ -42,45 +43,45 @@ fields-in-place :
       «not_in_rating» = 9;
       listed = 10;
     })
-    × (guaranteeIn (0 ∷ 1 ∷ 2 ∷ 3 ∷ 4 ∷ 5 ∷ 6 ∷ 7 ∷ 8 ∷ []) ≡ record {
+    × (guaranteeIn (0 ∷ 1 ∷ 2 ∷ 3 ∷ 4 ∷ 5 ∷ 6 ∷ 7 ∷ 8 ∷ 9 ∷ []) ≡ record {
       amount = 0;
-      provider = record { class = 1; step = 2 };
-      currency = 3;
-      residual = 4;
-      original = 5;
-      lawful = 6;
-      direct = 7;
-      «not_in_rating» = 8;
+      provider = record { class = 1; step = 2; «sovereign_step» = 3 };
+      currency = 4;
+      residual = 5;
+      original = 6;
+      lawful = 7;
+      direct = 8;
+      «not_in_rating» = 9;
     }))
 fields-in-place = (refl, (refl, refl))
 
 abbrev opened : List ℕ
 opened =
     -- the three deals of 01, The book; the second "500 2 7 .." is answered by 3
-    termsRefusal (termsIn (1000000 ∷ 3 ∷ 0 ∷ 978 ∷ 3 ∷ 1 ∷ 1800 ∷ 1 ∷ 0 ∷ 0 ∷ []))
-    ∷ termsRefusal (termsIn (500 ∷ 2 ∷ 7 ∷ 840 ∷ 1 ∷ 1 ∷ 30 ∷ 1 ∷ 0 ∷ 0 ∷ []))
-    ∷ termsRefusal (termsIn (900 ∷ 4 ∷ 0 ∷ 978 ∷ 3 ∷ 1 ∷ 90 ∷ 1 ∷ 0 ∷ 0 ∷ []))
+    termsRefusal (termsIn (1000000 ∷ 3 ∷ 0 ∷ 0 ∷ 978 ∷ 3 ∷ 1 ∷ 1800 ∷ 1 ∷ 0 ∷ 0 ∷ 1 ∷ []))
+    ∷ termsRefusal (termsIn (500 ∷ 2 ∷ 7 ∷ 0 ∷ 840 ∷ 1 ∷ 1 ∷ 30 ∷ 1 ∷ 0 ∷ 0 ∷ 1 ∷ []))
+    ∷ termsRefusal (termsIn (900 ∷ 4 ∷ 0 ∷ 0 ∷ 978 ∷ 3 ∷ 1 ∷ 90 ∷ 1 ∷ 0 ∷ 0 ∷ 1 ∷ []))
     -- the limit of an amount, and one above it
-    ∷ termsRefusal (termsIn (1000000000000 ∷ 3 ∷ 0 ∷ 978 ∷ 3 ∷ 1 ∷ 1800 ∷ 1 ∷ 0 ∷ 0 ∷ []))
-    ∷ termsRefusal (termsIn (1000000000001 ∷ 3 ∷ 0 ∷ 978 ∷ 3 ∷ 1 ∷ 1800 ∷ 1 ∷ 0 ∷ 0 ∷ []))
+    ∷ termsRefusal (termsIn (1000000000000 ∷ 3 ∷ 0 ∷ 0 ∷ 978 ∷ 3 ∷ 1 ∷ 1800 ∷ 1 ∷ 0 ∷ 0 ∷ 1 ∷ []))
+    ∷ termsRefusal (termsIn (1000000000001 ∷ 3 ∷ 0 ∷ 0 ∷ 978 ∷ 3 ∷ 1 ∷ 1800 ∷ 1 ∷ 0 ∷ 0 ∷ 1 ∷ []))
     -- each refusal before those behind it
-    ∷ termsRefusal (termsIn (1000000000001 ∷ 5 ∷ 7 ∷ 0 ∷ 3 ∷ 0 ∷ 0 ∷ 1 ∷ 0 ∷ 1 ∷ []))
-    ∷ termsRefusal (termsIn (500 ∷ 5 ∷ 7 ∷ 0 ∷ 3 ∷ 0 ∷ 0 ∷ 1 ∷ 0 ∷ 1 ∷ []))
-    ∷ termsRefusal (termsIn (500 ∷ 3 ∷ 7 ∷ 0 ∷ 3 ∷ 0 ∷ 0 ∷ 1 ∷ 0 ∷ 1 ∷ []))
-    ∷ termsRefusal (termsIn (500 ∷ 3 ∷ 6 ∷ 0 ∷ 3 ∷ 0 ∷ 0 ∷ 1 ∷ 0 ∷ 1 ∷ []))
-    ∷ termsRefusal (termsIn (500 ∷ 3 ∷ 6 ∷ 999 ∷ 3 ∷ 0 ∷ 0 ∷ 1 ∷ 0 ∷ 1 ∷ []))
+    ∷ termsRefusal (termsIn (1000000000001 ∷ 5 ∷ 7 ∷ 0 ∷ 0 ∷ 3 ∷ 0 ∷ 0 ∷ 1 ∷ 0 ∷ 1 ∷ 1 ∷ []))
+    ∷ termsRefusal (termsIn (500 ∷ 5 ∷ 7 ∷ 0 ∷ 0 ∷ 3 ∷ 0 ∷ 0 ∷ 1 ∷ 0 ∷ 1 ∷ 1 ∷ []))
+    ∷ termsRefusal (termsIn (500 ∷ 3 ∷ 7 ∷ 0 ∷ 0 ∷ 3 ∷ 0 ∷ 0 ∷ 1 ∷ 0 ∷ 1 ∷ 1 ∷ []))
+    ∷ termsRefusal (termsIn (500 ∷ 3 ∷ 6 ∷ 0 ∷ 0 ∷ 3 ∷ 0 ∷ 0 ∷ 1 ∷ 0 ∷ 1 ∷ 1 ∷ []))
+    ∷ termsRefusal (termsIn (500 ∷ 3 ∷ 6 ∷ 0 ∷ 999 ∷ 3 ∷ 0 ∷ 0 ∷ 1 ∷ 0 ∷ 1 ∷ 1 ∷ []))
     -- retail and cash have step 0
-    ∷ termsRefusal (termsIn (900 ∷ 4 ∷ 1 ∷ 978 ∷ 3 ∷ 1 ∷ 90 ∷ 1 ∷ 0 ∷ 0 ∷ []))
-    ∷ termsRefusal (termsIn (900 ∷ 4 ∷ 0 ∷ 978 ∷ 3 ∷ 1 ∷ 90 ∷ 1 ∷ 1 ∷ 0 ∷ []))
+    ∷ termsRefusal (termsIn (900 ∷ 4 ∷ 1 ∷ 0 ∷ 978 ∷ 3 ∷ 1 ∷ 90 ∷ 1 ∷ 0 ∷ 0 ∷ 1 ∷ []))
+    ∷ termsRefusal (termsIn (900 ∷ 4 ∷ 0 ∷ 0 ∷ 978 ∷ 3 ∷ 1 ∷ 90 ∷ 1 ∷ 1 ∷ 0 ∷ 1 ∷ []))
     ∷ []
 
 opened-edges : opened ≡ 0 ∷ 3 ∷ 0 ∷ 0 ∷ 1 ∷ 1 ∷ 2 ∷ 3 ∷ 4 ∷ 5 ∷ 3 ∷ 3 ∷ []
-unfolding termsRefusal termsTests firstOr within partyStepAllowed assetStepAllowed lifeAllowed if_then_else_
+unfolding termsRefusal termsTests firstOr within partyStepAllowed sovereignStepAllowed partyStepsAllowed assetStepAllowed lifeAllowed if_then_else_
 opened-edges = refl
 
 -- the record of zeros that stands beside a refusal: 0 is no class
 pub zero-refused : termsRefusal (zeroTerms) ≡ 2
-unfolding termsRefusal termsTests firstOr within partyStepAllowed assetStepAllowed lifeAllowed if_then_else_
+unfolding termsRefusal termsTests firstOr within partyStepAllowed sovereignStepAllowed partyStepsAllowed assetStepAllowed lifeAllowed if_then_else_
 zero-refused = refl
 
 -- sovereign debt in the deal's currency
@@ -100,7 +101,7 @@ pledge amount step residual original listed = record {
 abbrev given : ℕ → ℕ → ℕ → ℕ → ℕ → Guarantee
 given amount class residual original direct = record {
   amount = amount;
-  provider = record { class = class; step = 1 };
+  provider = record { class = class; step = 1; «sovereign_step» = 0 };
   currency = 978;
   residual = residual;
   original = original;
@@ -125,13 +126,13 @@ added =
     ∷ []
 
 added-edges : added ≡ 0 ∷ 0 ∷ 0 ∷ 7 ∷ 8 ∷ 3 ∷ 2 ∷ 7 ∷ 8 ∷ []
-unfolding collateralRefusal collateralTests guaranteeRefusal guaranteeTests firstOr within partyStepAllowed assetStepAllowed lifeAllowed if_then_else_
+unfolding collateralRefusal collateralTests guaranteeRefusal guaranteeTests firstOr within partyStepAllowed sovereignStepAllowed partyStepsAllowed assetStepAllowed lifeAllowed if_then_else_
 added-edges = refl
 
 -- a deal at this step of its counterparty, with so many places of its list of collateral counted, each filled alike
 abbrev holding : ℕ → ℕ → Collateral → Deal
 holding step count c = record {
-  terms = termsIn (1000000 ∷ 3 ∷ step ∷ 978 ∷ 3 ∷ 1 ∷ 1800 ∷ 1 ∷ 0 ∷ 0 ∷ []);
+  terms = termsIn (1000000 ∷ 3 ∷ step ∷ 0 ∷ 978 ∷ 3 ∷ 1 ∷ 1800 ∷ 1 ∷ 0 ∷ 0 ∷ 1 ∷ []);
   collateral = record { items = replicate 16 c; count = count };
   guarantees = withoutProtection (zeroTerms) .guarantees;
 }
@@ -149,7 +150,7 @@ whole =
     ∷ []
 
 whole-edges : whole ≡ 0 ∷ 6 ∷ 40 ∷ 40 ∷ 40 ∷ 0 ∷ []
-unfolding addCollateralRefusal addCollateralTests recordAllowed collateralListTests collateralListAllowed guaranteeListAllowed termsRefusal termsTests collateralRefusal collateralTests guaranteeRefusal guaranteeTests firstOr within partyStepAllowed assetStepAllowed lifeAllowed if_then_else_
+unfolding addCollateralRefusal addCollateralTests recordAllowed collateralListTests collateralListAllowed guaranteeListAllowed termsRefusal termsTests collateralRefusal collateralTests guaranteeRefusal guaranteeTests firstOr within partyStepAllowed sovereignStepAllowed partyStepsAllowed assetStepAllowed lifeAllowed if_then_else_
 whole-edges = refl
 
 -- every type with issue life 0 and 360, at step 0 and 1; kinds; the ends of the ranges
@@ -157,14 +158,14 @@ abbrev types : List ℕ
 types = 0 ∷ 1 ∷ 2 ∷ 3 ∷ 4 ∷ 5 ∷ 6 ∷ 7 ∷ 8 ∷ 9 ∷ 10 ∷ []
 
 abbrev lentAs : ℕ → ℕ → ℕ → ℕ
-lentAs step life goods = termsRefusal (termsIn (500 ∷ 3 ∷ 0 ∷ 978 ∷ 3 ∷ 1 ∷ 1800 ∷ goods ∷ step ∷ life ∷ []))
+lentAs step life goods = termsRefusal (termsIn (500 ∷ 3 ∷ 0 ∷ 0 ∷ 978 ∷ 3 ∷ 1 ∷ 1800 ∷ goods ∷ step ∷ life ∷ 1 ∷ []))
 
 goods-edges : map (lentAs 0 0) types ∷ map (lentAs 0 360) types ∷ map (lentAs 1 360) types
     ∷ map (lentAs 1 100000) types ∷ map (lentAs 1 100001) types
-    ∷ map (λ k. termsRefusal (termsIn (500 ∷ 3 ∷ 0 ∷ 978 ∷ k ∷ 1 ∷ 1800 ∷ 1 ∷ 0 ∷ 0 ∷ []))) (0 ∷ 1 ∷ 2 ∷ 3 ∷ 4 ∷ [])
-    ∷ map (λ r. termsRefusal (termsIn (500 ∷ 3 ∷ 0 ∷ 978 ∷ 3 ∷ 1 ∷ r ∷ 1 ∷ 0 ∷ 0 ∷ []))) (0 ∷ 1 ∷ 100000 ∷ 100001 ∷ [])
-    ∷ map (λ i. termsRefusal (termsIn (500 ∷ 3 ∷ 0 ∷ 978 ∷ 3 ∷ i ∷ 1800 ∷ 1 ∷ 0 ∷ 0 ∷ []))) (0 ∷ 1 ∷ 250 ∷ 251 ∷ [])
-    ∷ map (λ c. termsRefusal (termsIn (500 ∷ 3 ∷ 0 ∷ c ∷ 3 ∷ 1 ∷ 1800 ∷ 1 ∷ 0 ∷ 0 ∷ []))) (0 ∷ 1 ∷ 999 ∷ 1000 ∷ []) ∷ []
+    ∷ map (λ k. termsRefusal (termsIn (500 ∷ 3 ∷ 0 ∷ 0 ∷ 978 ∷ k ∷ 1 ∷ 1800 ∷ 1 ∷ 0 ∷ 0 ∷ 1 ∷ []))) (0 ∷ 1 ∷ 2 ∷ 3 ∷ 4 ∷ [])
+    ∷ map (λ r. termsRefusal (termsIn (500 ∷ 3 ∷ 0 ∷ 0 ∷ 978 ∷ 3 ∷ 1 ∷ r ∷ 1 ∷ 0 ∷ 0 ∷ 1 ∷ []))) (0 ∷ 1 ∷ 100000 ∷ 100001 ∷ [])
+    ∷ map (λ i. termsRefusal (termsIn (500 ∷ 3 ∷ 0 ∷ 0 ∷ 978 ∷ 3 ∷ i ∷ 1800 ∷ 1 ∷ 0 ∷ 0 ∷ 1 ∷ []))) (0 ∷ 1 ∷ 250 ∷ 251 ∷ [])
+    ∷ map (λ c. termsRefusal (termsIn (500 ∷ 3 ∷ 0 ∷ 0 ∷ c ∷ 3 ∷ 1 ∷ 1800 ∷ 1 ∷ 0 ∷ 0 ∷ 1 ∷ []))) (0 ∷ 1 ∷ 999 ∷ 1000 ∷ []) ∷ []
     ≡ (2 ∷ 0 ∷ 5 ∷ 5 ∷ 5 ∷ 5 ∷ 5 ∷ 0 ∷ 0 ∷ 0 ∷ 2 ∷ [])
     ∷ (2 ∷ 5 ∷ 0 ∷ 0 ∷ 0 ∷ 0 ∷ 0 ∷ 5 ∷ 5 ∷ 5 ∷ 2 ∷ [])
     ∷ (2 ∷ 3 ∷ 0 ∷ 0 ∷ 0 ∷ 0 ∷ 0 ∷ 3 ∷ 3 ∷ 3 ∷ 2 ∷ [])
@@ -174,7 +175,7 @@ goods-edges : map (lentAs 0 0) types ∷ map (lentAs 0 360) types ∷ map (lentA
     ∷ (5 ∷ 0 ∷ 0 ∷ 5 ∷ [])
     ∷ (5 ∷ 0 ∷ 0 ∷ 5 ∷ [])
     ∷ (4 ∷ 0 ∷ 0 ∷ 4 ∷ []) ∷ []
-unfolding termsRefusal termsTests firstOr within partyStepAllowed assetStepAllowed lifeAllowed if_then_else_
+unfolding termsRefusal termsTests firstOr within partyStepAllowed sovereignStepAllowed partyStepsAllowed assetStepAllowed lifeAllowed if_then_else_
 goods-edges = refl
 
 -- items with every fault, and one less each time; issue lives; the longest terms
@@ -195,17 +196,17 @@ items-in-order :
     ∷ item (5 ∷ 9 ∷ 0 ∷ 0 ∷ 999 ∷ 100000 ∷ 100000 ∷ 1 ∷ 1 ∷ 1 ∷ 1 ∷ [])
     ∷ item (5 ∷ 7 ∷ 0 ∷ 1 ∷ 978 ∷ 1 ∷ 1 ∷ 1 ∷ 1 ∷ 1 ∷ 1 ∷ [])
     ∷ item (5 ∷ 2 ∷ 1 ∷ 0 ∷ 978 ∷ 1 ∷ 1 ∷ 1 ∷ 1 ∷ 1 ∷ 1 ∷ [])
-    ∷ backing (1000000000001 ∷ 4 ∷ 7 ∷ 0 ∷ 2 ∷ 0 ∷ 2 ∷ 2 ∷ 2 ∷ [])
-    ∷ backing (5 ∷ 4 ∷ 7 ∷ 0 ∷ 2 ∷ 0 ∷ 2 ∷ 2 ∷ 2 ∷ [])
-    ∷ backing (5 ∷ 3 ∷ 7 ∷ 0 ∷ 2 ∷ 0 ∷ 2 ∷ 2 ∷ 2 ∷ [])
-    ∷ backing (5 ∷ 3 ∷ 6 ∷ 0 ∷ 2 ∷ 0 ∷ 2 ∷ 2 ∷ 2 ∷ [])
-    ∷ backing (5 ∷ 3 ∷ 6 ∷ 999 ∷ 2 ∷ 0 ∷ 2 ∷ 2 ∷ 2 ∷ [])
-    ∷ backing (5 ∷ 3 ∷ 6 ∷ 999 ∷ 2 ∷ 1 ∷ 2 ∷ 2 ∷ 2 ∷ [])
-    ∷ backing (5 ∷ 3 ∷ 6 ∷ 999 ∷ 100000 ∷ 100000 ∷ 1 ∷ 1 ∷ 2 ∷ [])
-    ∷ backing (5 ∷ 3 ∷ 6 ∷ 999 ∷ 100000 ∷ 100000 ∷ 1 ∷ 1 ∷ 1 ∷ [])
+    ∷ backing (1000000000001 ∷ 4 ∷ 7 ∷ 0 ∷ 0 ∷ 2 ∷ 0 ∷ 2 ∷ 2 ∷ 2 ∷ [])
+    ∷ backing (5 ∷ 4 ∷ 7 ∷ 0 ∷ 0 ∷ 2 ∷ 0 ∷ 2 ∷ 2 ∷ 2 ∷ [])
+    ∷ backing (5 ∷ 3 ∷ 7 ∷ 0 ∷ 0 ∷ 2 ∷ 0 ∷ 2 ∷ 2 ∷ 2 ∷ [])
+    ∷ backing (5 ∷ 3 ∷ 6 ∷ 0 ∷ 0 ∷ 2 ∷ 0 ∷ 2 ∷ 2 ∷ 2 ∷ [])
+    ∷ backing (5 ∷ 3 ∷ 6 ∷ 0 ∷ 999 ∷ 2 ∷ 0 ∷ 2 ∷ 2 ∷ 2 ∷ [])
+    ∷ backing (5 ∷ 3 ∷ 6 ∷ 0 ∷ 999 ∷ 2 ∷ 1 ∷ 2 ∷ 2 ∷ 2 ∷ [])
+    ∷ backing (5 ∷ 3 ∷ 6 ∷ 0 ∷ 999 ∷ 100000 ∷ 100000 ∷ 1 ∷ 1 ∷ 2 ∷ [])
+    ∷ backing (5 ∷ 3 ∷ 6 ∷ 0 ∷ 999 ∷ 100000 ∷ 100000 ∷ 1 ∷ 1 ∷ 1 ∷ [])
     ∷ []
     ≡ 1 ∷ 2 ∷ 3 ∷ 4 ∷ 5 ∷ 7 ∷ 8 ∷ 0 ∷ 5 ∷ 5 ∷ 1 ∷ 2 ∷ 3 ∷ 4 ∷ 5 ∷ 7 ∷ 8 ∷ 0 ∷ []
-unfolding collateralRefusal collateralTests guaranteeRefusal guaranteeTests firstOr within partyStepAllowed assetStepAllowed lifeAllowed if_then_else_
+unfolding collateralRefusal collateralTests guaranteeRefusal guaranteeTests firstOr within partyStepAllowed sovereignStepAllowed partyStepsAllowed assetStepAllowed lifeAllowed if_then_else_
 items-in-order = refl
 
 -- "For lives and terms 5 now begins above 100,000" (02: L11), in each field that holds days: the term of a deal and the life of what it
@@ -215,22 +216,22 @@ days = 0 ∷ 1 ∷ 36000 ∷ 36001 ∷ 65537 ∷ 99999 ∷ 100000 ∷ 100001 ∷
 
 days-edges :
     map (λ f. map f days) (
-    (λ n. termsRefusal (termsIn (500 ∷ 3 ∷ 0 ∷ 978 ∷ 3 ∷ 1 ∷ n ∷ 1 ∷ 0 ∷ 0 ∷ [])))
+    (λ n. termsRefusal (termsIn (500 ∷ 3 ∷ 0 ∷ 0 ∷ 978 ∷ 3 ∷ 1 ∷ n ∷ 1 ∷ 0 ∷ 0 ∷ 1 ∷ [])))
     ∷ (λ n. lentAs 1 n 2)
     ∷ (λ n. item (5 ∷ 2 ∷ 1 ∷ n ∷ 978 ∷ 1 ∷ 1 ∷ 1 ∷ 1 ∷ 1 ∷ 1 ∷ []))
     ∷ (λ n. item (5 ∷ 1 ∷ 0 ∷ 0 ∷ 978 ∷ n ∷ 100000 ∷ 1 ∷ 1 ∷ 1 ∷ 1 ∷ []))
     ∷ (λ n. item (5 ∷ 1 ∷ 0 ∷ 0 ∷ 978 ∷ 1 ∷ n ∷ 1 ∷ 1 ∷ 1 ∷ 1 ∷ []))
-    ∷ (λ n. backing (5 ∷ 3 ∷ 6 ∷ 978 ∷ n ∷ 100000 ∷ 1 ∷ 1 ∷ 1 ∷ []))
-    ∷ (λ n. backing (5 ∷ 3 ∷ 6 ∷ 978 ∷ 1 ∷ n ∷ 1 ∷ 1 ∷ 1 ∷ []))
+    ∷ (λ n. backing (5 ∷ 3 ∷ 6 ∷ 0 ∷ 978 ∷ n ∷ 100000 ∷ 1 ∷ 1 ∷ 1 ∷ []))
+    ∷ (λ n. backing (5 ∷ 3 ∷ 6 ∷ 0 ∷ 978 ∷ 1 ∷ n ∷ 1 ∷ 1 ∷ 1 ∷ []))
     ∷ [])
     ≡ replicate 7 (5 ∷ 0 ∷ 0 ∷ 0 ∷ 0 ∷ 0 ∷ 0 ∷ 5 ∷ 5 ∷ 5 ∷ [])
-unfolding termsRefusal termsTests collateralRefusal collateralTests guaranteeRefusal guaranteeTests firstOr within partyStepAllowed assetStepAllowed lifeAllowed if_then_else_
+unfolding termsRefusal termsTests collateralRefusal collateralTests guaranteeRefusal guaranteeTests firstOr within partyStepAllowed sovereignStepAllowed partyStepsAllowed assetStepAllowed lifeAllowed if_then_else_
 days-edges = refl
 
 -- fifteen, sixteen, seventeen guarantees
 abbrev guaranteed : ℕ → Guarantee → Deal
 guaranteed count g = record {
-  terms = termsIn (1000000 ∷ 3 ∷ 0 ∷ 978 ∷ 3 ∷ 1 ∷ 1800 ∷ 1 ∷ 0 ∷ 0 ∷ []);
+  terms = termsIn (1000000 ∷ 3 ∷ 0 ∷ 0 ∷ 978 ∷ 3 ∷ 1 ∷ 1800 ∷ 1 ∷ 0 ∷ 0 ∷ 1 ∷ []);
   collateral = withoutProtection (zeroTerms) .collateral;
   guarantees = record { items = replicate 16 g; count = count };
 }
@@ -242,21 +243,21 @@ whole-guarantees :
     ∷ addGuaranteeRefusal (guaranteed 1 (given 5 1 361 360 1)) (given 5 1 360 360 1)
     ∷ addGuaranteeRefusal (guaranteed 0 (given 5 1 361 360 1)) (given 5 1 360 360 1)
     ∷ [] ≡ 0 ∷ 6 ∷ 40 ∷ 40 ∷ 0 ∷ []
-unfolding addGuaranteeRefusal addGuaranteeTests recordAllowed guaranteeListTests collateralListAllowed guaranteeListAllowed termsRefusal termsTests collateralRefusal collateralTests guaranteeRefusal guaranteeTests firstOr within partyStepAllowed assetStepAllowed lifeAllowed if_then_else_
+unfolding addGuaranteeRefusal addGuaranteeTests recordAllowed guaranteeListTests collateralListAllowed guaranteeListAllowed termsRefusal termsTests collateralRefusal collateralTests guaranteeRefusal guaranteeTests firstOr within partyStepAllowed sovereignStepAllowed partyStepsAllowed assetStepAllowed lifeAllowed if_then_else_
 whole-guarantees = refl
 
 -- zeros are zeros; beside a refusal nothing of the terms stays; two of each go behind each other
-zeros : (zeroCollateral ≡ collateralIn (replicate 11 0)) × ((zeroGuarantee ≡ guaranteeIn (replicate 9 0))
-    × (openedDeal (termsIn (500 ∷ 2 ∷ 7 ∷ 840 ∷ 1 ∷ 1 ∷ 30 ∷ 1 ∷ 0 ∷ 0 ∷ [])) ≡ dealWith (termsIn (replicate 10 0)) [] []))
-unfolding openedDeal termsRefusal termsTests firstOr within partyStepAllowed assetStepAllowed lifeAllowed if_then_else_
+zeros : (zeroCollateral ≡ collateralIn (replicate 11 0)) × ((zeroGuarantee ≡ guaranteeIn (replicate 10 0))
+    × (openedDeal (termsIn (500 ∷ 2 ∷ 7 ∷ 0 ∷ 840 ∷ 1 ∷ 1 ∷ 30 ∷ 1 ∷ 0 ∷ 0 ∷ 1 ∷ [])) ≡ dealWith (termsIn (replicate 12 0)) [] []))
+unfolding openedDeal termsRefusal termsTests firstOr within partyStepAllowed sovereignStepAllowed partyStepsAllowed assetStepAllowed lifeAllowed if_then_else_
 zeros = (refl, (refl, refl))
 
 added-behind :
-    (let loan = termsIn (1000000 ∷ 3 ∷ 0 ∷ 978 ∷ 3 ∷ 1 ∷ 1800 ∷ 1 ∷ 0 ∷ 0 ∷ []) in
+    (let loan = termsIn (1000000 ∷ 3 ∷ 0 ∷ 0 ∷ 978 ∷ 3 ∷ 1 ∷ 1800 ∷ 1 ∷ 0 ∷ 0 ∷ 1 ∷ []) in
     let c : ℕ → Collateral = λ n. pledge n 1 360 360 1 in
     let g : ℕ → Guarantee = λ n. given n 1 360 360 1 in
     withGuarantee (withGuarantee (withCollateral (withCollateral (openedDeal loan) (c 1)) (c 2)) (g 3)) (g 4) ≡ dealWith loan (c 1 ∷ c 2 ∷ []) (g 3 ∷ g 4 ∷ []))
-unfolding openedDeal withCollateral withGuarantee addCollateralRefusal addCollateralTests addGuaranteeRefusal addGuaranteeTests recordAllowed collateralListTests guaranteeListTests collateralListAllowed guaranteeListAllowed termsRefusal termsTests collateralRefusal collateralTests guaranteeRefusal guaranteeTests firstOr within partyStepAllowed assetStepAllowed lifeAllowed if_then_else_
+unfolding openedDeal withCollateral withGuarantee addCollateralRefusal addCollateralTests addGuaranteeRefusal addGuaranteeTests recordAllowed collateralListTests guaranteeListTests collateralListAllowed guaranteeListAllowed termsRefusal termsTests collateralRefusal collateralTests guaranteeRefusal guaranteeTests firstOr within partyStepAllowed sovereignStepAllowed partyStepsAllowed assetStepAllowed lifeAllowed if_then_else_
 added-behind = refl
 
 -- the life of every type up to either limit, and lives that a narrower number would cut: none outside types 2 to 6, however long
@@ -284,7 +285,53 @@ pledges-of-types = refl
 
 -- 7 above 36,000
 long-terms-in-order :
-    map (λ n. item (5 ∷ 1 ∷ 0 ∷ 0 ∷ 978 ∷ n ∷ 70000 ∷ 1 ∷ 1 ∷ 1 ∷ 1 ∷ []) ∷ backing (5 ∷ 3 ∷ 6 ∷ 978 ∷ n ∷ 70000 ∷ 1 ∷ 1 ∷ 1 ∷ []) ∷ []) (1 ∷ 70000 ∷ 70001 ∷ 100000 ∷ [])
+    map (λ n. item (5 ∷ 1 ∷ 0 ∷ 0 ∷ 978 ∷ n ∷ 70000 ∷ 1 ∷ 1 ∷ 1 ∷ 1 ∷ []) ∷ backing (5 ∷ 3 ∷ 6 ∷ 0 ∷ 978 ∷ n ∷ 70000 ∷ 1 ∷ 1 ∷ 1 ∷ []) ∷ []) (1 ∷ 70000 ∷ 70001 ∷ 100000 ∷ [])
     ≡ (0 ∷ 0 ∷ []) ∷ (0 ∷ 0 ∷ []) ∷ (7 ∷ 7 ∷ []) ∷ (7 ∷ 7 ∷ []) ∷ []
-unfolding collateralRefusal collateralTests guaranteeRefusal guaranteeTests firstOr within partyStepAllowed assetStepAllowed lifeAllowed if_then_else_
+unfolding collateralRefusal collateralTests guaranteeRefusal guaranteeTests firstOr within partyStepAllowed sovereignStepAllowed partyStepsAllowed assetStepAllowed lifeAllowed if_then_else_
 long-terms-in-order = refl
+
+-- THE SOVEREIGN'S STEP AND THE EDITION. 02: L5
+
+-- 0 to 6, and 0 for sovereign and retail, whatever the edition: by class, the steps 0 to 7
+abbrev steps : List ℕ
+steps = 0 ∷ 1 ∷ 2 ∷ 3 ∷ 4 ∷ 5 ∷ 6 ∷ 7 ∷ []
+
+sovereign-steps :
+    (map (λ e. map (λ c. map (λ s. termsRefusal (termsIn (500 ∷ c ∷ 0 ∷ s ∷ 978 ∷ 3 ∷ 1 ∷ 1800 ∷ 1 ∷ 0 ∷ 0 ∷ e ∷ []))) steps) (0 ∷ 1 ∷ 2 ∷ 3 ∷ 4 ∷ 5 ∷ [])) (1 ∷ 2 ∷ [])
+    ≡ replicate 2 (replicate 8 2 ∷ (0 ∷ replicate 7 3) ∷ (replicate 7 0 ++ 3 ∷ []) ∷ (replicate 7 0 ++ 3 ∷ []) ∷ (0 ∷ replicate 7 3) ∷ replicate 8 2 ∷ []))
+    × (map (λ c. map (λ s. backing (5 ∷ c ∷ 0 ∷ s ∷ 978 ∷ 1 ∷ 1 ∷ 1 ∷ 1 ∷ 1 ∷ [])) steps) (0 ∷ 1 ∷ 2 ∷ 3 ∷ 4 ∷ [])
+    ≡ replicate 8 2 ∷ (0 ∷ replicate 7 3) ∷ (replicate 7 0 ++ 3 ∷ []) ∷ (replicate 7 0 ++ 3 ∷ []) ∷ replicate 8 2 ∷ [])
+unfolding termsRefusal termsTests guaranteeRefusal guaranteeTests firstOr within partyStepAllowed sovereignStepAllowed partyStepsAllowed assetStepAllowed lifeAllowed if_then_else_
+sovereign-steps = (refl, refl)
+
+-- whether the party is rated or not
+rated-sovereign-steps :
+    (map (λ step. map (λ c. map (λ s. termsRefusal (termsIn (500 ∷ c ∷ step ∷ s ∷ 978 ∷ 3 ∷ 1 ∷ 1800 ∷ 1 ∷ 0 ∷ 0 ∷ 2 ∷ []))) steps) (1 ∷ 2 ∷ 3 ∷ [])) (1 ∷ 2 ∷ 3 ∷ 4 ∷ 5 ∷ 6 ∷ [])
+    ≡ replicate 6 ((0 ∷ replicate 7 3) ∷ replicate 2 (replicate 7 0 ++ 3 ∷ [])))
+    × (map (λ step. map (λ c. map (λ s. backing (5 ∷ c ∷ step ∷ s ∷ 978 ∷ 1 ∷ 1 ∷ 1 ∷ 1 ∷ 1 ∷ [])) steps) (1 ∷ 2 ∷ 3 ∷ [])) (1 ∷ 2 ∷ 3 ∷ 4 ∷ 5 ∷ 6 ∷ [])
+    ≡ replicate 6 ((0 ∷ replicate 7 3) ∷ replicate 2 (replicate 7 0 ++ 3 ∷ [])))
+unfolding termsRefusal termsTests guaranteeRefusal guaranteeTests firstOr within partyStepAllowed sovereignStepAllowed partyStepsAllowed assetStepAllowed lifeAllowed if_then_else_
+rated-sovereign-steps = (refl, refl)
+
+-- an unknown edition is 2: behind 1, before 3
+editions :
+    map (λ e. termsRefusal (termsIn (500 ∷ 2 ∷ 0 ∷ 6 ∷ 978 ∷ 3 ∷ 1 ∷ 1800 ∷ 1 ∷ 0 ∷ 0 ∷ e ∷ []))) (0 ∷ 1 ∷ 2 ∷ 3 ∷ 4 ∷ 257 ∷ 4294967298 ∷ [])
+    ∷ map (λ e. termsRefusal (termsIn (1000000000001 ∷ 2 ∷ 0 ∷ 7 ∷ 0 ∷ 3 ∷ 1 ∷ 1800 ∷ 1 ∷ 0 ∷ 0 ∷ e ∷ []))) (0 ∷ 1 ∷ [])
+    ∷ map (λ e. termsRefusal (termsIn (500 ∷ 2 ∷ 0 ∷ 7 ∷ 0 ∷ 3 ∷ 1 ∷ 1800 ∷ 1 ∷ 0 ∷ 0 ∷ e ∷ []))) (0 ∷ 1 ∷ [])
+    ∷ []
+    ≡ (2 ∷ 0 ∷ 0 ∷ 2 ∷ 2 ∷ 2 ∷ 2 ∷ []) ∷ (1 ∷ 1 ∷ []) ∷ (2 ∷ 3 ∷ []) ∷ []
+unfolding termsRefusal termsTests firstOr within partyStepAllowed sovereignStepAllowed partyStepsAllowed assetStepAllowed lifeAllowed if_then_else_
+editions = refl
+
+-- in a record an unknown edition, or a wrong step of a sovereign in a counted place, is 40; past the count it is not tested
+records :
+    map (λ d. addCollateralRefusal d (pledge 5 1 360 360 1)) (
+    dealWith (termsIn (500 ∷ 2 ∷ 0 ∷ 6 ∷ 978 ∷ 3 ∷ 1 ∷ 1800 ∷ 1 ∷ 0 ∷ 0 ∷ 2 ∷ [])) [] []
+    ∷ dealWith (termsIn (500 ∷ 2 ∷ 0 ∷ 6 ∷ 978 ∷ 3 ∷ 1 ∷ 1800 ∷ 1 ∷ 0 ∷ 0 ∷ 3 ∷ [])) [] []
+    ∷ dealWith (termsIn (500 ∷ 1 ∷ 0 ∷ 6 ∷ 978 ∷ 3 ∷ 1 ∷ 1800 ∷ 1 ∷ 0 ∷ 0 ∷ 2 ∷ [])) [] []
+    ∷ guaranteed 1 (guaranteeIn (5 ∷ 1 ∷ 0 ∷ 1 ∷ 978 ∷ 1 ∷ 1 ∷ 1 ∷ 1 ∷ 1 ∷ []))
+    ∷ guaranteed 0 (guaranteeIn (5 ∷ 1 ∷ 0 ∷ 1 ∷ 978 ∷ 1 ∷ 1 ∷ 1 ∷ 1 ∷ 1 ∷ []))
+    ∷ [])
+    ≡ 0 ∷ 40 ∷ 40 ∷ 40 ∷ 0 ∷ []
+unfolding addCollateralRefusal addCollateralTests recordAllowed collateralListTests collateralListAllowed guaranteeListAllowed termsRefusal termsTests collateralRefusal collateralTests guaranteeRefusal guaranteeTests firstOr within partyStepAllowed sovereignStepAllowed partyStepsAllowed assetStepAllowed lifeAllowed if_then_else_
+records = refl

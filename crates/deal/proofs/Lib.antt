@@ -5,3 +5,4 @@ pub mod BothWays
 pub mod Lists
 pub mod Plain
 pub mod SameChecks
+pub mod Steps

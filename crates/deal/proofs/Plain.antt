@@ -1,7 +1,7 @@
 -- What is not refused, in plain inequalities: for sums and products to fit, and for the laws of the tables. Assumes nothing.
 use Prim.Native.Nat.{ℕ, _≤_, _<_}
 use mathlib.Core.Path.{_≡_, refl}
-use mathlib.Core.Bool.{Bool, true, false, _&&_}
+use mathlib.Core.Bool.{Bool, true, false, _&&_, _||_}
 use native.Mathlib.Omega.{arith}
 use lib.Dec.{leb, eqb}
 use lib.ListN.{length, getD}
@@ -11,8 +11,8 @@ use Rattle.base.proofs.Every.{both}
 use Rattle.base.proofs.FirstMet.{none-exactly}
 use Rattle.base.proofs.Range.{bounds}
 use Rattle.deal.specs.Ranges.{daysAllowed, daysLimit, intervalAllowed, conditionAllowed}
-use Rattle.deal.specs.Parties.{counterpartyKnown, partyStepAllowed}
-use Rattle.deal.specs.Assets.{isDebt, assetStepAllowed}
+use Rattle.deal.specs.Parties.{counterpartyKnown, partyStepAllowed, partyStepsAllowed, sovereignStepAllowed}
+use Rattle.deal.specs.Assets.{assetStepAllowed, goodsKnown, isDebt}
 use Rattle.deal.specs.Terms.{kindKnown, termsTests, termsRefusal}
 use Rattle.deal.specs.Collateral.{collateralTests, collateralRefusal, collateralListAllowed}
 use Rattle.deal.specs.Guarantees.{guaranteeTests, guaranteeRefusal, guaranteeListAllowed}
@@ -33,12 +33,14 @@ pub record PlainTerms (t : Terms) : Type 0 where
   pub amount : t .amount ≤ 1000000000000
   pub class : Between 1 4 (t .counterparty .class)
   pub step : t .counterparty .step ≤ 6
+  pub «sovereign_step» : t .counterparty .«sovereign_step» ≤ 6
   pub currency : Between 1 999 (t .currency)
   pub kind : Between 1 3 (t .kind)
   pub interval : Between 1 250 (t .interval)
   pub residual : Between 1 daysLimit (t .residual)
   pub lentGoods : Between 1 9 (t .lent .goods)
   pub lentStep : t .lent .step ≤ 6
+  pub edition : Between 1 2 (t .edition)
 
 pub record PlainCollateral (c : Collateral) : Type 0 where
   pub amount : c .amount ≤ 1000000000000
@@ -57,6 +59,7 @@ pub record PlainGuarantee (g : Guarantee) : Type 0 where
   pub amount : g .amount ≤ 1000000000000
   pub class : Between 1 3 (g .provider .class)
   pub step : g .provider .step ≤ 6
+  pub «sovereign_step» : g .provider .«sovereign_step» ≤ 6
   pub currency : Between 1 999 (g .currency)
   pub residual : Between 1 daysLimit (g .residual)
   pub original : Between 1 daysLimit (g .original)
@@ -74,6 +77,19 @@ party-step p e = go (eqb (p .class) 4) e
     go true h = omega (arith, eqb-true (p .step) 0 h)
     go false h = leb-true (p .step) 6 h
 
+sovereign-step : (p : Party) → sovereignStepAllowed p ≡ true → p .«sovereign_step» ≤ 6
+unfolding sovereignStepAllowed if_then_else_
+sovereign-step p e = go (eqb (p .class) 1 || eqb (p .class) 4) e
+  where
+    go : (b : Bool) → (if b then eqb (p .«sovereign_step») 0 else leb (p .«sovereign_step») 6) ≡ true → p .«sovereign_step» ≤ 6
+    go true h = omega (arith, eqb-true (p .«sovereign_step») 0 h)
+    go false h = leb-true (p .«sovereign_step») 6 h
+
+-- a party's own step, and its sovereign's
+party-steps : (p : Party) → partyStepsAllowed p ≡ true → (p .step ≤ 6) × (p .«sovereign_step» ≤ 6)
+unfolding partyStepsAllowed
+party-steps p e = let b = both (partyStepAllowed p) _ e in (party-step p (b .0), sovereign-step p (b .1))
+
 asset-step : (a : Asset) → assetStepAllowed a ≡ true → a .step ≤ 6
 unfolding assetStepAllowed if_then_else_
 asset-step a e = go (isDebt (a .goods)) e
@@ -86,21 +102,25 @@ pub plain-terms : (t : Terms) → termsRefusal t ≡ 0 → PlainTerms t
 unfolding termsRefusal termsTests
 plain-terms t e =
     let n = none-exactly (termsTests t) refl e in
-    let known = both (counterpartyKnown (t .counterparty) && kindKnown (t .kind)) _ (held _ (n .1 .0)) in
+    let all = both (counterpartyKnown (t .counterparty) && kindKnown (t .kind) && goodsKnown (t .lent)) _ (held _ (n .1 .0)) in
+    let known = both (counterpartyKnown (t .counterparty) && kindKnown (t .kind)) _ (all .0) in
     let codes = both (counterpartyKnown (t .counterparty)) _ (known .0) in
-    let steps = both (partyStepAllowed (t .counterparty)) _ (held _ (n .1 .1 .0)) in
+    let steps = both (partyStepsAllowed (t .counterparty)) _ (held _ (n .1 .1 .0)) in
+    let party = party-steps _ (steps .0) in
     let ranges = both (intervalAllowed (t .interval) && daysAllowed daysLimit (t .residual)) _ (held _ (n .1 .1 .1 .1 .0)) in
     let days = both (intervalAllowed (t .interval)) _ (ranges .0) in
     record {
       amount = leb-true _ _ (held _ (n .0));
       class = bounds 1 4 _ (codes .0);
-      step = party-step _ (steps .0);
+      step = party .0;
+      «sovereign_step» = party .1;
       currency = bounds 1 999 _ (held _ (n .1 .1 .1 .0));
       kind = bounds 1 3 _ (codes .1);
       interval = bounds 1 250 _ (days .0);
       residual = bounds 1 daysLimit _ (days .1);
       lentGoods = bounds 1 9 _ (known .1);
       lentStep = asset-step _ (steps .1);
+      edition = bounds 1 2 _ (all .1);
     }
 
 pub plain-collateral : (c : Collateral) → collateralRefusal c ≡ 0 → PlainCollateral c
@@ -134,10 +154,12 @@ plain-guarantee g e =
     let days = both (daysAllowed daysLimit (g .residual)) _ (held _ (n .1 .1 .1 .1 .0)) in
     let three = both (conditionAllowed (g .lawful) && conditionAllowed (g .direct)) _ (held _ (n .1 .1 .1 .1 .1 .1 .0)) in
     let two = both (conditionAllowed (g .lawful)) _ (three .0) in
+    let party = party-steps _ (held _ (n .1 .1 .0)) in
     record {
       amount = leb-true _ _ (held _ (n .0));
       class = bounds 1 3 _ (held _ (n .1 .0));
-      step = party-step _ (held _ (n .1 .1 .0));
+      step = party .0;
+      «sovereign_step» = party .1;
       currency = bounds 1 999 _ (held _ (n .1 .1 .1 .0));
       residual = bounds 1 daysLimit _ (days .0);
       original = bounds 1 daysLimit _ (days .1);

@@ -8,9 +8,9 @@ unfoldable pub answerNumber : Answer → ℕ
 answerNumber Accepted = 0
 -- "amount over the limit"
 answerNumber AmountAboveLimit = 1
--- "unknown class, kind or type"
+-- "unknown class, kind or type", and edition (02: L5)
 answerNumber UnknownCode = 2
--- "step above 6, or not 0 where 0 is due"
+-- "step above 6, or not 0 where 0 is due", and a wrong step of the sovereign of incorporation (02: L5)
 answerNumber WrongStep = 3
 -- "currency"
 answerNumber WrongCurrency = 4

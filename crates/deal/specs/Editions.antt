@@ -1,7 +1,15 @@
--- The tables that a deal is reported under.
-use Rattle.tables.specs.Table.{Table, table2019}
+-- The editions of the tables that deals are reported under. 02: L5
+use Prim.Native.Nat.{ℕ}
+use mathlib.Core.Bool.{Bool}
+use Rattle.base.specs.Range.{within}
+use Rattle.tables.specs.Table.{Table, tableOf}
 use Rattle.deal.specs.declared.terms.Terms.{Terms}
 
--- CRE20 and CRE22, version of 2019, for every deal, whatever its terms
+-- 1 and 2. "Opening is given what the header says with the deal's own fields; an unknown value is 2", the refusal; in the first line of a book it is 9
+-- (book/specs/Heading)
+abbrev pub editionKnown : ℕ → Bool
+editionKnown edition = within 1 2 edition
+
+-- the tables of the edition that a deal's terms hold
 unfoldable pub tableFor : Terms → Table
-tableFor t = table2019
+tableFor t = tableOf (t .edition)

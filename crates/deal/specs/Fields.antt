@@ -3,40 +3,52 @@
 use Prim.Native.Nat.{ℕ}
 use mathlib.Core.List.{List, [], _∷_}
 use lib.ListN.{getD}
+use Rattle.deal.specs.declared.party.Party.{Party}
 use Rattle.deal.specs.declared.terms.Terms.{Terms}
 use Rattle.deal.specs.declared.collateral.Collateral.{Collateral}
 use Rattle.deal.specs.declared.guarantee.Guarantee.{Guarantee}
 
 -- how many there are of each
 abbrev pub termsWidth : ℕ
-termsWidth = 10
+termsWidth = 12
 
 abbrev pub collateralWidth : ℕ
 collateralWidth = 11
 
 abbrev pub guaranteeWidth : ℕ
-guaranteeWidth = 9
+guaranteeWidth = 10
+
+-- class, step and sovereign's step of a party, which stand behind the amount of a deal and of a guarantee alike
+abbrev pub partyIn : List ℕ → Party
+partyIn fields = record { class = getD fields 1 0; step = getD fields 2 0; «sovereign_step» = getD fields 3 0 }
 
 -- "Deal: amount; counterparty class ..; step; currency; kind ..; revaluation interval ..; residual term; type, step and issue life of
--- what is lent"
-abbrev pub termsIn : List ℕ → Terms
-termsIn fields =
+-- what is lent"; "D lines gain, after the step, the step of that sovereign", and "Opening is given what the header says with the deal's own
+-- fields" (02: L5)
+abbrev pub termsUnder : ℕ → List ℕ → Terms
+termsUnder edition fields =
     let field : ℕ → ℕ = λ k. getD fields k 0 in
     record {
       amount = field 0;
-      counterparty = record { class = field 1; step = field 2 };
-      currency = field 3;
-      kind = field 4;
-      interval = field 5;
-      residual = field 6;
-      lent = record { goods = field 7; step = field 8; life = field 9 };
+      counterparty = partyIn fields;
+      currency = field 4;
+      kind = field 5;
+      interval = field 6;
+      residual = field 7;
+      lent = record { goods = field 8; step = field 9; life = field 10 };
+      edition = edition;
     }
+
+-- the deal's own fields, and behind them what the header says
+abbrev pub termsIn : List ℕ → Terms
+termsIn fields = termsUnder (getD fields 11 0) fields
 
 abbrev pub termsFields : Terms → List ℕ
 termsFields t =
     t .amount
     ∷ t .counterparty .class
     ∷ t .counterparty .step
+    ∷ t .counterparty .«sovereign_step»
     ∷ t .currency
     ∷ t .kind
     ∷ t .interval
@@ -44,6 +56,7 @@ termsFields t =
     ∷ t .lent .goods
     ∷ t .lent .step
     ∷ t .lent .life
+    ∷ t .edition
     ∷ []
 
 -- "Collateral: amount; type; step; issue life; currency; residual term of the pledge; its original term; conditions: lawful, unrelated to
@@ -79,19 +92,19 @@ collateralFields c =
     ∷ []
 
 -- "Guarantee: amount; provider class ..; step; currency; residual and original term; conditions: lawful, direct .., not already in the
--- rating used"
+-- rating used"; the step of the provider's sovereign behind the step (02: L5)
 abbrev pub guaranteeIn : List ℕ → Guarantee
 guaranteeIn fields =
     let field : ℕ → ℕ = λ k. getD fields k 0 in
     record {
       amount = field 0;
-      provider = record { class = field 1; step = field 2 };
-      currency = field 3;
-      residual = field 4;
-      original = field 5;
-      lawful = field 6;
-      direct = field 7;
-      «not_in_rating» = field 8;
+      provider = partyIn fields;
+      currency = field 4;
+      residual = field 5;
+      original = field 6;
+      lawful = field 7;
+      direct = field 8;
+      «not_in_rating» = field 9;
     }
 
 abbrev pub guaranteeFields : Guarantee → List ℕ
@@ -99,6 +112,7 @@ guaranteeFields g =
     g .amount
     ∷ g .provider .class
     ∷ g .provider .step
+    ∷ g .provider .«sovereign_step»
     ∷ g .currency
     ∷ g .residual
     ∷ g .original

@@ -6,7 +6,7 @@ use lib.Dec.{leb}
 use lib.ListN.{replicate}
 use Rattle.base.specs.FirstMet.{Test, firstMet}
 use Rattle.deal.specs.Ranges.{amountAllowed, conditionAllowed, currencyAllowed, daysAllowed, daysLimit}
-use Rattle.deal.specs.Parties.{providerKnown, partyStepAllowed}
+use Rattle.deal.specs.Parties.{providerKnown, partyStepsAllowed}
 use Rattle.deal.specs.Checks.{fieldTests}
 use Rattle.deal.specs.Fields.{zeroGuarantee}
 use Rattle.deal.specs.Lists.{counted, itemsWith, listAllowed, listLimit, listTests, unlessRefused}
@@ -19,7 +19,7 @@ abbrev pub guaranteeChecks : ℕ → Guarantee → FieldChecks
 guaranteeChecks limit g = record {
   amount = amountAllowed (g .amount);
   codes = providerKnown (g .provider);
-  steps = partyStepAllowed (g .provider);
+  steps = partyStepsAllowed (g .provider);
   currency = currencyAllowed (g .currency);
   ranges = daysAllowed limit (g .residual) && daysAllowed limit (g .original);
   maturity = leb (g .residual) (g .original);

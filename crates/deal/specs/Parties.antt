@@ -1,5 +1,5 @@
--- Counterparties and providers of guarantees. 01: What a deal holds.
-use mathlib.Core.Bool.{Bool}
+-- Counterparties and providers of guarantees. 01: What a deal holds; 02: L5.
+use mathlib.Core.Bool.{Bool, _&&_, _||_}
 use lib.Dec.{eqb}
 use Rattle.base.specs.Choice.{if_then_else_}
 use Rattle.base.specs.Range.{within}
@@ -18,3 +18,12 @@ providerKnown party = within sovereign otherEntity (party .class)
 -- ".. 4 retail, which has step 0". A provider of class 4 is refused by 2 before its step is asked for
 unfoldable pub partyStepAllowed : Party → Bool
 partyStepAllowed party = if eqb (party .class) retail then eqb (party .step) 0 else stepAllowed (party .step)
+
+-- the step of its sovereign of incorporation, under every edition: "It is 0 to 6, and must be 0 for sovereign and retail" (02: L5)
+unfoldable pub sovereignStepAllowed : Party → Bool
+sovereignStepAllowed party =
+    if eqb (party .class) sovereign || eqb (party .class) retail then eqb (party .«sovereign_step») 0 else stepAllowed (party .«sovereign_step»)
+
+-- both of them. "(A wrong entry is 3.)"
+unfoldable pub partyStepsAllowed : Party → Bool
+partyStepsAllowed party = partyStepAllowed party && sovereignStepAllowed party

@@ -1,4 +1,4 @@
--- The terms of a deal, which are what is sent to open it. 01: What a deal holds; The four operations, Opening a deal.
+-- The terms of a deal, which are what is sent to open it. 01: What a deal holds; The four operations, Opening a deal; 02: L5.
 use Prim.Native.Nat.{ℕ}
 use mathlib.Core.Bool.{Bool, true, _&&_}
 use mathlib.Core.List.{List}
@@ -6,7 +6,8 @@ use Rattle.base.specs.FirstMet.{Test, firstMet}
 use Rattle.base.specs.Range.{within}
 use Rattle.tables.specs.Kinds.{repoStyle, securedLending}
 use Rattle.deal.specs.Ranges.{amountAllowed, currencyAllowed, daysAllowed, daysLimit, intervalAllowed}
-use Rattle.deal.specs.Parties.{counterpartyKnown, partyStepAllowed}
+use Rattle.deal.specs.Editions.{editionKnown}
+use Rattle.deal.specs.Parties.{counterpartyKnown, partyStepsAllowed}
 use Rattle.deal.specs.Assets.{goodsKnown, assetStepAllowed, lifeAllowed}
 use Rattle.deal.specs.Checks.{fieldTests}
 use Rattle.deal.specs.declared.checks.FieldChecks.{FieldChecks}
@@ -21,8 +22,8 @@ kindKnown kind = within repoStyle securedLending kind
 abbrev pub termsChecks : ℕ → Terms → FieldChecks
 termsChecks limit t = record {
   amount = amountAllowed (t .amount);
-  codes = counterpartyKnown (t .counterparty) && kindKnown (t .kind) && goodsKnown (t .lent);
-  steps = partyStepAllowed (t .counterparty) && assetStepAllowed (t .lent);
+  codes = counterpartyKnown (t .counterparty) && kindKnown (t .kind) && goodsKnown (t .lent) && editionKnown (t .edition);
+  steps = partyStepsAllowed (t .counterparty) && assetStepAllowed (t .lent);
   currency = currencyAllowed (t .currency);
   ranges = intervalAllowed (t .interval) && daysAllowed limit (t .residual) && lifeAllowed limit (t .lent);
   maturity = true;

@@ -8,7 +8,7 @@ use crate::answer::Answer;
 // Whether each kind of field is as it should be, in the order of the refusals.
 pub struct FieldChecks {
     pub amount: bool,
-    // Class, kind and type.
+    // Class, kind, type and edition.
     pub codes: bool,
     pub steps: bool,
     pub currency: bool,

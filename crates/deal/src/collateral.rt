@@ -114,16 +114,13 @@ impl CollateralList {
         ensures { λ r. ⌜ (r .list ≡ collateralListWith self item) × (answerNumber (r .answer) ≡ collateralListRefusal self item) ⌝ }
     {
         let at = self.count;
-        if at >= Deal::COLLATERAL_LIMIT {
-            return AddedCollateral {
-                list: self,
-                answer: Answer::ListFull,
-            };
-        }
-        let answer = item.check();
-        if answer.is_accepted() {
-            self.items[at] = item;
-            self.count = at + 1;
+        let mut answer = Answer::ListFull;
+        if at < Deal::COLLATERAL_LIMIT {
+            answer = item.check();
+            if answer.is_accepted() {
+                self.items[at] = item;
+                self.count = at + 1;
+            }
         }
         AddedCollateral { list: self, answer }
     }

@@ -2,7 +2,7 @@
 ghost use mathlib.Core.Path.{_≡_};
 ghost use Prim.Native.Nat.{_≤_};
 ghost use lib.ListN.{length};
-ghost use Rattle.deal.specs.Fields.{collateralFields, collateralIn, collateralWidth, guaranteeFields, guaranteeIn, guaranteeWidth, termsFields, termsIn, termsWidth};
+ghost use Rattle.deal.specs.Fields.{collateralFields, collateralIn, collateralWidth, guaranteeFields, guaranteeIn, guaranteeWidth, partyIn, termsFields, termsIn, termsUnder, termsWidth};
 use crate::asset::Asset;
 use crate::collateral::Collateral;
 use crate::guarantee::Guarantee;
@@ -10,32 +10,50 @@ use crate::party::Party;
 use crate::terms::Terms;
 
 // How many numbers there are of each.
-pub const TERMS_WIDTH: usize = 10;
+pub const TERMS_WIDTH: usize = 12;
 
 pub const COLLATERAL_WIDTH: usize = 11;
 
-pub const GUARANTEE_WIDTH: usize = 9;
+pub const GUARANTEE_WIDTH: usize = 10;
+
+// A party's, which stand in the same places of a deal and of a guarantee.
+fn party_in(fields: &[u64]) -> Party
+    requires { ⌜ 4 ≤ length (now fields) ⌝ }
+    ensures { λ r. ⌜ r ≡ partyIn (now (fields .entry)) ⌝ }
+{
+    Party {
+        class: fields[1],
+        step: fields[2],
+        sovereign_step: fields[3],
+    }
+}
+
+// A deal's own fields under an edition.
+pub fn terms_under(edition: u64, fields: &[u64]) -> Terms
+    requires { ⌜ 11 ≤ length (now fields) ⌝ }
+    ensures { λ r. ⌜ r ≡ termsUnder edition (now (fields .entry)) ⌝ }
+{
+    Terms {
+        amount: fields[0],
+        counterparty: party_in(fields),
+        currency: fields[4],
+        kind: fields[5],
+        interval: fields[6],
+        residual: fields[7],
+        lent: Asset {
+            goods: fields[8],
+            step: fields[9],
+            life: fields[10],
+        },
+        edition,
+    }
+}
 
 pub fn terms_in(fields: &[u64]) -> Terms
     requires { ⌜ termsWidth ≤ length (now fields) ⌝ }
     ensures { λ r. ⌜ r ≡ termsIn (now (fields .entry)) ⌝ }
 {
-    Terms {
-        amount: fields[0],
-        counterparty: Party {
-            class: fields[1],
-            step: fields[2],
-        },
-        currency: fields[3],
-        kind: fields[4],
-        interval: fields[5],
-        residual: fields[6],
-        lent: Asset {
-            goods: fields[7],
-            step: fields[8],
-            life: fields[9],
-        },
-    }
+    terms_under(fields[11], fields)
 }
 
 pub fn collateral_in(fields: &[u64]) -> Collateral
@@ -65,16 +83,13 @@ pub fn guarantee_in(fields: &[u64]) -> Guarantee
 {
     Guarantee {
         amount: fields[0],
-        provider: Party {
-            class: fields[1],
-            step: fields[2],
-        },
-        currency: fields[3],
-        residual: fields[4],
-        original: fields[5],
-        lawful: fields[6],
-        direct: fields[7],
-        not_in_rating: fields[8],
+        provider: party_in(fields),
+        currency: fields[4],
+        residual: fields[5],
+        original: fields[6],
+        lawful: fields[7],
+        direct: fields[8],
+        not_in_rating: fields[9],
     }
 }
 
@@ -87,6 +102,7 @@ pub fn terms_fields(terms: Terms) -> [u64; TERMS_WIDTH]
         terms.amount,
         counterparty.class,
         counterparty.step,
+        counterparty.sovereign_step,
         terms.currency,
         terms.kind,
         terms.interval,
@@ -94,6 +110,7 @@ pub fn terms_fields(terms: Terms) -> [u64; TERMS_WIDTH]
         lent.goods,
         lent.step,
         lent.life,
+        terms.edition,
     ]
 }
 
@@ -124,6 +141,7 @@ pub fn guarantee_fields(item: Guarantee) -> [u64; GUARANTEE_WIDTH]
         item.amount,
         provider.class,
         provider.step,
+        provider.sovereign_step,
         item.currency,
         item.residual,
         item.original,

@@ -38,7 +38,11 @@ pub struct AddedGuarantee {
 impl Guarantee {
     pub const ZERO: Guarantee = Guarantee {
         amount: 0,
-        provider: Party { class: 0, step: 0 },
+        provider: Party {
+            class: 0,
+            step: 0,
+            sovereign_step: 0,
+        },
         currency: 0,
         residual: 0,
         original: 0,
@@ -59,7 +63,7 @@ impl Guarantee {
         let checks = FieldChecks {
             amount: amount_allowed(self.amount),
             codes: provider.provider_known(),
-            steps: provider.step_allowed(),
+            steps: provider.steps_allowed(),
             currency: currency_allowed(self.currency),
             ranges,
             maturity: self.residual <= self.original,
@@ -104,16 +108,13 @@ impl GuaranteeList {
         ensures { λ r. ⌜ (r .list ≡ guaranteeListWith self item) × (answerNumber (r .answer) ≡ guaranteeListRefusal self item) ⌝ }
     {
         let at = self.count;
-        if at >= Deal::GUARANTEE_LIMIT {
-            return AddedGuarantee {
-                list: self,
-                answer: Answer::ListFull,
-            };
-        }
-        let answer = item.check();
-        if answer.is_accepted() {
-            self.items[at] = item;
-            self.count = at + 1;
+        let mut answer = Answer::ListFull;
+        if at < Deal::GUARANTEE_LIMIT {
+            answer = item.check();
+            if answer.is_accepted() {
+                self.items[at] = item;
+                self.count = at + 1;
+            }
         }
         AddedGuarantee { list: self, answer }
     }

@@ -8,7 +8,7 @@ const LAST_CURRENCY: u64 = 999;
 
 const LONGEST_INTERVAL: u64 = 250;
 
-const LAST_STEP: u64 = 6;
+pub const LAST_STEP: u64 = 6;
 
 // Of a deal or of an item.
 pub fn amount_allowed(amount: u64) -> bool

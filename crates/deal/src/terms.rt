@@ -3,7 +3,8 @@ ghost use mathlib.Core.Bool.{_&&_};
 ghost use mathlib.Core.Path.{_≡_};
 ghost use Rattle.deal.specs.Answers.{answerNumber};
 ghost use Rattle.deal.specs.Assets.{assetStepAllowed, goodsKnown, lifeAllowed};
-ghost use Rattle.deal.specs.Parties.{counterpartyKnown, partyStepAllowed};
+ghost use Rattle.deal.specs.Editions.{editionKnown};
+ghost use Rattle.deal.specs.Parties.{counterpartyKnown, partyStepsAllowed};
 ghost use Rattle.deal.specs.Ranges.{daysAllowed, daysLimit, intervalAllowed};
 ghost use Rattle.deal.specs.Terms.{kindKnown, termsRefusal};
 use crate::answer::Answer;
@@ -18,6 +19,10 @@ use base::within;
 use tables::kinds::REPO_STYLE;
 use tables::kinds::SECURED_LENDING;
 
+const FIRST_EDITION: u64 = 1;
+
+const LAST_EDITION: u64 = 2;
+
 pub struct Terms {
     pub amount: u64,
     pub counterparty: Party,
@@ -28,6 +33,14 @@ pub struct Terms {
     // The residual term in days.
     pub residual: u64,
     pub lent: Asset,
+    // Of the tables: what the heading of a book says.
+    pub edition: u64,
+}
+
+fn edition_known(edition: u64) -> bool
+    ensures { λ r. ⌜ r ≡ editionKnown edition ⌝ }
+{
+    within(FIRST_EDITION, LAST_EDITION, edition)
 }
 
 fn kind_known(kind: u64) -> bool
@@ -39,7 +52,11 @@ fn kind_known(kind: u64) -> bool
 impl Terms {
     pub const ZERO: Terms = Terms {
         amount: 0,
-        counterparty: Party { class: 0, step: 0 },
+        counterparty: Party {
+            class: 0,
+            step: 0,
+            sovereign_step: 0,
+        },
         currency: 0,
         kind: 0,
         interval: 0,
@@ -49,24 +66,28 @@ impl Terms {
             step: 0,
             life: 0,
         },
+        edition: 0,
     };
 
-    // Class, kind and type of the goods lent.
+    // Class, kind, type of the goods lent and edition.
     fn codes_known(self) -> bool
-        ensures { λ r. ⌜ r ≡ (counterpartyKnown (self .counterparty) && kindKnown (self .kind) && goodsKnown (self .lent)) ⌝ }
+        ensures { λ r. ⌜ r ≡ (counterpartyKnown (self .counterparty) && kindKnown (self .kind) && goodsKnown (self .lent) && editionKnown (self .edition)) ⌝ }
     {
         let counterparty = self.counterparty;
         let lent = self.lent;
-        counterparty.counterparty_known() & kind_known(self.kind) & lent.goods_known()
+        counterparty.counterparty_known()
+            & kind_known(self.kind)
+            & lent.goods_known()
+            & edition_known(self.edition)
     }
 
     // Of the counterparty and of the goods lent.
     fn steps_allowed(self) -> bool
-        ensures { λ r. ⌜ r ≡ (partyStepAllowed (self .counterparty) && assetStepAllowed (self .lent)) ⌝ }
+        ensures { λ r. ⌜ r ≡ (partyStepsAllowed (self .counterparty) && assetStepAllowed (self .lent)) ⌝ }
     {
         let counterparty = self.counterparty;
         let lent = self.lent;
-        counterparty.step_allowed() & lent.step_allowed()
+        counterparty.steps_allowed() & lent.step_allowed()
     }
 
     // Interval, term and issue life.

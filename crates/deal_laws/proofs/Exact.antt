@@ -12,7 +12,8 @@ use Rattle.base.proofs.All.{all-at, all-from}
 use Rattle.base.proofs.Every.{both}
 use Rattle.base.proofs.Tests.{and-true, not-true, told-not-false}
 use Rattle.deal.specs.Ranges.{amountAllowed}
-use Rattle.deal.specs.Parties.{counterpartyKnown, partyStepAllowed}
+use Rattle.deal.specs.Editions.{editionKnown}
+use Rattle.deal.specs.Parties.{counterpartyKnown, partyStepsAllowed}
 use Rattle.deal.specs.Assets.{goodsKnown, assetStepAllowed}
 use Rattle.deal.specs.Terms.{kindKnown, termsTests, termsRefusal}
 use Rattle.deal.specs.Collateral.{collateralTests, collateralListTests, collateralRefusal, collateralListAllowed}
@@ -41,8 +42,8 @@ guarantee-exact d g = exact _ refl
 abbrev Three : Terms → Type 0
 Three t =
     (not (amountAllowed (t .amount)) ≡ false)
-    × ((not (counterpartyKnown (t .counterparty) && kindKnown (t .kind) && goodsKnown (t .lent)) ≡ false)
-    × (not (partyStepAllowed (t .counterparty) && assetStepAllowed (t .lent)) ≡ true))
+    × ((not (counterpartyKnown (t .counterparty) && kindKnown (t .kind) && goodsKnown (t .lent) && editionKnown (t .edition)) ≡ false)
+    × (not (partyStepsAllowed (t .counterparty) && assetStepAllowed (t .lent)) ≡ true))
 
 pub opening-3 : (t : Terms) → (termsRefusal t ≡ 3 → Three t) × (Three t → termsRefusal t ≡ 3)
 unfolding termsTests termsRefusal

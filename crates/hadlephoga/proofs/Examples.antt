@@ -6,7 +6,7 @@ use lib.ListN.{getD, length, replicate}
 use Rattle.base.specs.Choice.{if_then_else_}
 use Rattle.deal.specs.Answers.{answerNumber}
 use Rattle.deal.specs.Adding.{addCollateralRefusal, addCollateralTests, addGuaranteeRefusal, addGuaranteeTests, withCollateral, withGuarantee}
-use Rattle.deal.specs.Fields.{zeroCollateral, zeroGuarantee, collateralFields, collateralIn, guaranteeFields, guaranteeIn, termsFields, termsIn}
+use Rattle.deal.specs.Fields.{collateralIn, collateralWidth, guaranteeIn, guaranteeWidth, termsIn, termsWidth, zeroCollateral, zeroGuarantee}
 use Rattle.deal.specs.Collateral.{collateralListTests}
 use Rattle.deal.specs.Guarantees.{guaranteeListTests}
 use Rattle.deal.specs.declared.answer.Answer.the-variants.{Accepted}
@@ -16,16 +16,17 @@ use Rattle.relief.specs.declared.ground.Ground.the-variants.{NotLawful, WeightN
 use Rattle.relief.specs.declared.outcome.Outcome.the-variants.{LeftOut, Valued}
 use Rattle.relief.specs.declared.report.Report.{Report}
 use Rattle.relief.proofs.Computed.{computed}
+use Rattle.hadlephoga.specs.Layout.{layout}
 use Rattle.hadlephoga.specs.Operations.{addingCollateralRefusal, addingGuaranteeRefusal, addingRefusal, listOpened, numbersWithCollateral, numbersWithGuarantee, openedNumbers, openingRefusalOf, openingTests}
 use Rattle.hadlephoga.specs.Records.{dealIn, dealNumbers, inOrder, slices, recordLength}
-use Rattle.hadlephoga.specs.Reports.{listAfter, reportIn, reportNumbers, reportingRefusal}
+use Rattle.hadlephoga.specs.Reports.{collateralReportWidth, guaranteeReportWidth, listAfter, reportIn, reportLength, reportNumbers, reportingRefusal}
 
--- "D 1000000 3 0 978 3 1 1800 1 0 0", "C 400000 2 1 720 978 1800 1800 1 1 1 0", "G 200000 1 1 978 1800 1800 1 1 1"
+-- under the first edition "D 1000000 3 0 978 3 1 1800 1 0 0", "C 400000 2 1 720 978 1800 1800 1 1 1 0", "G 200000 1 1 978 1800 1800 1 1 1"
 abbrev example : List ℕ
 example =
-    1000000 ∷ 3 ∷ 0 ∷ 978 ∷ 3 ∷ 1 ∷ 1800 ∷ 1 ∷ 0 ∷ 0
+    1000000 ∷ 3 ∷ 0 ∷ 0 ∷ 978 ∷ 3 ∷ 1 ∷ 1800 ∷ 1 ∷ 0 ∷ 0 ∷ 1
     ∷ 1 ∷ 400000 ∷ 2 ∷ 1 ∷ 720 ∷ 978 ∷ 1800 ∷ 1800 ∷ 1 ∷ 1 ∷ 1 ∷ 0 ∷ (replicate 165 0
-    ++ 1 ∷ 200000 ∷ 1 ∷ 1 ∷ 978 ∷ 1800 ∷ 1800 ∷ 1 ∷ 1 ∷ 1 ∷ replicate 135 0)
+    ++ 1 ∷ 200000 ∷ 1 ∷ 1 ∷ 0 ∷ 978 ∷ 1800 ∷ 1800 ∷ 1 ∷ 1 ∷ 1 ∷ replicate 150 0)
 
 -- E* 611,314 and the weighted amount 411,314, as the book's answer has them; a number behind the report stays
 example-reported :
@@ -41,13 +42,13 @@ not-reported = (refl, refl, refl, refl)
 
 -- the same deal, opened, and its items added
 abbrev opening : List ℕ
-opening = 1000000 ∷ 3 ∷ 0 ∷ 978 ∷ 3 ∷ 1 ∷ 1800 ∷ 1 ∷ 0 ∷ 0 ∷ []
+opening = 1000000 ∷ 3 ∷ 0 ∷ 0 ∷ 978 ∷ 3 ∷ 1 ∷ 1800 ∷ 1 ∷ 0 ∷ 0 ∷ 1 ∷ []
 
 abbrev bond : List ℕ
 bond = 400000 ∷ 2 ∷ 1 ∷ 720 ∷ 978 ∷ 1800 ∷ 1800 ∷ 1 ∷ 1 ∷ 1 ∷ 0 ∷ []
 
 abbrev promise : List ℕ
-promise = 200000 ∷ 1 ∷ 1 ∷ 978 ∷ 1800 ∷ 1800 ∷ 1 ∷ 1 ∷ 1 ∷ []
+promise = 200000 ∷ 1 ∷ 1 ∷ 0 ∷ 978 ∷ 1800 ∷ 1800 ∷ 1 ∷ 1 ∷ 1 ∷ []
 
 unfoldable built : List ℕ
 unfolding computed openingRefusalOf openingTests openedNumbers listOpened addingRefusal numbersWithCollateral numbersWithGuarantee addCollateralTests addGuaranteeTests addCollateralRefusal addGuaranteeRefusal collateralListTests guaranteeListTests withCollateral withGuarantee dealIn dealNumbers slices inOrder
@@ -58,21 +59,21 @@ unfolding built
 example-built = (refl, refl, refl)
 
 -- opened into a list with a number behind the record, which stays
-example-opened : (openingRefusalOf opening 333 ≡ 0) × (listOpened opening (replicate 333 7) ≡ opening ++ (replicate 322 0 ++ 7 ∷ []))
+example-opened : (openingRefusalOf opening 351 ≡ 0) × (listOpened opening (replicate 351 7) ≡ opening ++ (replicate 338 0 ++ 7 ∷ []))
 unfolding built
 example-opened = (refl, refl)
 
 -- "D 500 2 7 840 1 1 30 1 0 0" is refused with 3; terms with a number too many, with 11; both leave zeros. A list with one place too few, 13
 abbrev wrongStep : List ℕ
-wrongStep = 500 ∷ 2 ∷ 7 ∷ 840 ∷ 1 ∷ 1 ∷ 30 ∷ 1 ∷ 0 ∷ 0 ∷ []
+wrongStep = 500 ∷ 2 ∷ 7 ∷ 0 ∷ 840 ∷ 1 ∷ 1 ∷ 30 ∷ 1 ∷ 0 ∷ 0 ∷ 1 ∷ []
 
 not-opened :
-    (openingRefusalOf wrongStep 333 ≡ 3)
-    × (listOpened wrongStep (replicate 333 7) ≡ replicate 332 0 ++ 7 ∷ [])
-    × (openingRefusalOf (0 ∷ opening) 333 ≡ 11)
-    × (listOpened (0 ∷ opening) (replicate 333 7) ≡ replicate 332 0 ++ 7 ∷ [])
-    × (openingRefusalOf (0 ∷ opening) 331 ≡ 13)
-    × (listOpened (0 ∷ opening) (replicate 331 7) ≡ replicate 331 7)
+    (openingRefusalOf wrongStep 351 ≡ 3)
+    × (listOpened wrongStep (replicate 351 7) ≡ replicate 350 0 ++ 7 ∷ [])
+    × (openingRefusalOf (0 ∷ opening) 351 ≡ 11)
+    × (listOpened (0 ∷ opening) (replicate 351 7) ≡ replicate 350 0 ++ 7 ∷ [])
+    × (openingRefusalOf (0 ∷ opening) 349 ≡ 13)
+    × (listOpened (0 ∷ opening) (replicate 349 7) ≡ replicate 349 7)
 unfolding built
 not-opened = (refl, refl, refl, refl, refl, refl)
 
@@ -81,7 +82,7 @@ not-added :
     (addingCollateralRefusal [] promise ≡ 11)
     × (addingGuaranteeRefusal [] bond ≡ 11)
     × (addingCollateralRefusal (0 ∷ example) (replicate 11 0) ≡ 40)
-    × (addingGuaranteeRefusal (replicate 332 0) (replicate 9 0) ≡ 40)
+    × (addingGuaranteeRefusal (replicate 350 0) (replicate 10 0) ≡ 40)
     × (addingCollateralRefusal example (400000 ∷ 2 ∷ 1 ∷ 720 ∷ replicate 7 0) ≡ 4)
     × (numbersWithCollateral example (400000 ∷ 2 ∷ 1 ∷ 720 ∷ replicate 7 0) ≡ example)
     × (numbersWithGuarantee (0 ∷ example) promise ≡ 0 ∷ example)
@@ -92,14 +93,14 @@ not-added = (refl, refl, refl, refl, refl, refl, refl)
 -- pledged at 40,000 scaled to 56,569: 1,056,569 less 377,372 is E*, of which the guarantee covers 200,000
 abbrev longest : List ℕ
 longest =
-    1000000 ∷ 3 ∷ 0 ∷ 978 ∷ 3 ∷ 1 ∷ 100000 ∷ 2 ∷ 1 ∷ 100000
+    1000000 ∷ 3 ∷ 0 ∷ 0 ∷ 978 ∷ 3 ∷ 1 ∷ 100000 ∷ 2 ∷ 1 ∷ 100000 ∷ 1
     ∷ 1 ∷ 400000 ∷ 2 ∷ 1 ∷ 100000 ∷ 978 ∷ 100000 ∷ 100000 ∷ 1 ∷ 1 ∷ 1 ∷ 0 ∷ (replicate 165 0
-    ++ 1 ∷ 200000 ∷ 1 ∷ 1 ∷ 978 ∷ 100000 ∷ 100000 ∷ 1 ∷ 1 ∷ 1 ∷ replicate 135 0)
+    ++ 1 ∷ 200000 ∷ 1 ∷ 1 ∷ 0 ∷ 978 ∷ 100000 ∷ 100000 ∷ 1 ∷ 1 ∷ 1 ∷ replicate 150 0)
 
 longest-built :
     numbersWithGuarantee
-    (numbersWithCollateral (openedNumbers (1000000 ∷ 3 ∷ 0 ∷ 978 ∷ 3 ∷ 1 ∷ 100000 ∷ 2 ∷ 1 ∷ 100000 ∷ [])) (400000 ∷ 2 ∷ 1 ∷ 100000 ∷ 978 ∷ 100000 ∷ 100000 ∷ 1 ∷ 1 ∷ 1 ∷ 0 ∷ []))
-    (200000 ∷ 1 ∷ 1 ∷ 978 ∷ 100000 ∷ 100000 ∷ 1 ∷ 1 ∷ 1 ∷ [])
+    (numbersWithCollateral (openedNumbers (1000000 ∷ 3 ∷ 0 ∷ 0 ∷ 978 ∷ 3 ∷ 1 ∷ 100000 ∷ 2 ∷ 1 ∷ 100000 ∷ 1 ∷ [])) (400000 ∷ 2 ∷ 1 ∷ 100000 ∷ 978 ∷ 100000 ∷ 100000 ∷ 1 ∷ 1 ∷ 1 ∷ 0 ∷ []))
+    (200000 ∷ 1 ∷ 1 ∷ 0 ∷ 978 ∷ 100000 ∷ 100000 ∷ 1 ∷ 1 ∷ 1 ∷ [])
     ≡ longest
 unfolding built
 longest-built = refl
@@ -117,15 +118,15 @@ countedUp first (suc n) = first ∷ countedUp (suc first) n
 
 -- each number of a record is the field that it should be: of the terms, the counts, and the first and last item of each list
 record-in-place :
-    (dealIn (countedUp 0 332) .terms ≡ termsIn (0 ∷ 1 ∷ 2 ∷ 3 ∷ 4 ∷ 5 ∷ 6 ∷ 7 ∷ 8 ∷ 9 ∷ []))
-    × (dealIn (countedUp 0 332) .collateral .count ≡ 10)
-    × (getD (dealIn (countedUp 0 332) .collateral .items) 0 zeroCollateral ≡ collateralIn (countedUp 11 11))
-    × (getD (dealIn (countedUp 0 332) .collateral .items) 15 zeroCollateral ≡ collateralIn (countedUp 176 11))
-    × (dealIn (countedUp 0 332) .guarantees .count ≡ 187)
-    × (getD (dealIn (countedUp 0 332) .guarantees .items) 0 zeroGuarantee ≡ guaranteeIn (countedUp 188 9))
-    × (getD (dealIn (countedUp 0 332) .guarantees .items) 15 zeroGuarantee ≡ guaranteeIn (countedUp 323 9))
-    × (length (countedUp 0 332) ≡ recordLength)
-    × (dealNumbers (dealIn (countedUp 0 332)) ≡ countedUp 0 332)
+    (dealIn (countedUp 0 350) .terms ≡ termsIn (0 ∷ 1 ∷ 2 ∷ 3 ∷ 4 ∷ 5 ∷ 6 ∷ 7 ∷ 8 ∷ 9 ∷ 10 ∷ 11 ∷ []))
+    × (dealIn (countedUp 0 350) .collateral .count ≡ 12)
+    × (getD (dealIn (countedUp 0 350) .collateral .items) 0 zeroCollateral ≡ collateralIn (countedUp 13 11))
+    × (getD (dealIn (countedUp 0 350) .collateral .items) 15 zeroCollateral ≡ collateralIn (countedUp 178 11))
+    × (dealIn (countedUp 0 350) .guarantees .count ≡ 189)
+    × (getD (dealIn (countedUp 0 350) .guarantees .items) 0 zeroGuarantee ≡ guaranteeIn (countedUp 190 10))
+    × (getD (dealIn (countedUp 0 350) .guarantees .items) 15 zeroGuarantee ≡ guaranteeIn (countedUp 340 10))
+    × (length (countedUp 0 350) ≡ recordLength)
+    × (dealNumbers (dealIn (countedUp 0 350)) ≡ countedUp 0 350)
 unfolding built countedUp
 record-in-place = (refl, refl, refl, refl, refl, refl, refl, refl, refl)
 
@@ -143,3 +144,24 @@ sample = record {
 report-in-place : reportNumbers sample ≡ 1 ∷ 2 ∷ 0 ∷ 0 ∷ 21 ∷ 3 ∷ 0 ∷ 4 ∷ 0 ∷ 29 ∷ 5 ∷ 6 ∷ 7 ∷ []
 unfolding reportNumbers inOrder outcomeValue outcomeGround groundNumber
 report-in-place = refl
+
+-- THE LAYOUT, which has a number: how many numbers each part has, and what stands where. Whoever changes one of these has to change the
+-- layout's number, and this fact with it
+layout-2 :
+    layout ∷ termsWidth ∷ collateralWidth ∷ guaranteeWidth ∷ recordLength ∷ collateralReportWidth ∷ guaranteeReportWidth ∷ reportLength ∷ []
+    ≡ 2 ∷ 12 ∷ 11 ∷ 10 ∷ 350 ∷ 2 ∷ 3 ∷ 83 ∷ []
+layout-2 = refl
+
+-- a party's sovereign's step and the edition, on numbers (02: L5): an unrated bank under a sovereign of step 6 and one that backs it under
+-- one of step 4, opened, added and reported. 150 and 100 under the second edition, 50 both under the first, where nothing is recognised
+abbrev floored : ℕ → List ℕ
+floored edition =
+    numbersWithGuarantee (openedNumbers (1000 ∷ 2 ∷ 0 ∷ 6 ∷ 978 ∷ 3 ∷ 1 ∷ 1800 ∷ 1 ∷ 0 ∷ 0 ∷ edition ∷ []))
+    (600 ∷ 2 ∷ 0 ∷ 4 ∷ 978 ∷ 1800 ∷ 1800 ∷ 1 ∷ 1 ∷ 1 ∷ [])
+
+floored-reported :
+    (listAfter (floored 2) (replicate 83 7) ≡ 1000 ∷ (replicate 32 0 ++ 600 ∷ 0 ∷ 600 ∷ (replicate 45 0 ++ 400 ∷ 1200 ∷ [])))
+    × (listAfter (floored 1) (replicate 83 7) ≡ 1000 ∷ (replicate 32 0 ++ 0 ∷ 29 ∷ 0 ∷ (replicate 45 0 ++ 1000 ∷ 500 ∷ [])))
+    × (floored 3 ≡ replicate 350 0)
+unfolding built computed reportingRefusal listAfter reportNumbers reportIn dealIn slices inOrder answerNumber if_then_else_
+floored-reported = (refl, refl, refl)

@@ -1,3 +1,4 @@
+pub mod Layout
 pub mod Operations
 pub mod Records
 pub mod Reports

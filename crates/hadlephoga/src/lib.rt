@@ -3,6 +3,7 @@
 ghost use mathlib.Core.Path.{_≡_};
 ghost use lib.ListN.{length};
 ghost use Rattle.book.specs.Book.{bookReply, resultsAfter};
+ghost use Rattle.hadlephoga.specs.Layout.{layout};
 ghost use Rattle.hadlephoga.specs.Operations.{addingCollateralRefusal, addingGuaranteeRefusal, listOpened, numbersWithCollateral, numbersWithGuarantee, openingRefusalOf};
 ghost use Rattle.hadlephoga.specs.Reports.{listAfter, reportingRefusal};
 
@@ -25,6 +26,16 @@ use report::put_report;
 const MALFORMED: u64 = 11;
 
 const LIST_TOO_SHORT: u64 = 13;
+
+const LAYOUT: u64 = 2;
+
+// The number of the layout of all lists of numbers below. A caller built for another one must not go on.
+#[no_mangle]
+pub extern "C" fn hadlephoga_layout() -> u64
+    ensures { λ r. ⌜ r ≡ layout ⌝ }
+{
+    LAYOUT
+}
 
 // Answering a book: the refusal of the whole book or 0, the count of deals beside it, and four numbers a deal in the list.
 #[no_mangle]

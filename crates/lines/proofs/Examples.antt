@@ -2,7 +2,7 @@
 use Prim.Native.Nat.{ℕ}
 use mathlib.Core.Path.{_≡_, refl}
 use mathlib.Core.Bool.{Bool, true, false, not}
-use mathlib.Core.List.{List, [], _∷_, map}
+use mathlib.Core.List.{List, [], _∷_, _++_, map}
 use lib.ListN.{replicate}
 use Rattle.base.specs.Choice.{if_then_else_}
 use Rattle.base.specs.Range.{within}
@@ -14,6 +14,7 @@ use Rattle.text.proofs.Bytes.{only}
 use Rattle.text.specs.Decimal.{decimalFrom}
 use Rattle.lines.specs.Numbers.{digitsOf, numberAllowed, numberRead, numberOf}
 use Rattle.lines.specs.Fields.{fieldOf, isEnd, andThen, withNumber, fieldsOf}
+use Rattle.lines.specs.Sovereign.{widthUnder, withSovereign}
 use Rattle.lines.specs.Lines.{dealLine, collateralLine, guaranteeLine, ifRead, lineOf}
 use Rattle.lines.specs.declared.number.Number.{Number}
 use Rattle.lines.specs.declared.number.Number.the-variants.{Value, NoNumber}
@@ -45,7 +46,7 @@ numbers-read = refl
 -- the first three lines of the example of 01
 abbrev said : List Line
 said =
-    DealLine (termsIn (1000000 ∷ 3 ∷ 0 ∷ 978 ∷ 3 ∷ 1 ∷ 1800 ∷ 1 ∷ 0 ∷ 0 ∷ []))
+    DealLine (termsIn (1000000 ∷ 3 ∷ 0 ∷ 0 ∷ 978 ∷ 3 ∷ 1 ∷ 1800 ∷ 1 ∷ 0 ∷ 0 ∷ 1 ∷ []))
     ∷ CollateralLine (record {
       amount = 400000;
       asset = record { goods = 2; step = 1; life = 720 };
@@ -59,7 +60,7 @@ said =
     })
     ∷ GuaranteeLine (record {
       amount = 200000;
-      provider = record { class = 1; step = 1 };
+      provider = record { class = 1; step = 1; «sovereign_step» = 0 };
       currency = 978;
       residual = 1800;
       original = 1800;
@@ -70,14 +71,14 @@ said =
     ∷ []
 
 lines-read :
-    map lineOf (
+    map (lineOf 1) (
     bytes "D\t1000000\t3\t0\t978\t3\t1\t1800\t1\t0\t0\n"
     ∷ bytes "C\t400000\t2\t1\t720\t978\t1800\t1800\t1\t1\t1\t0\n"
     ∷ bytes "G\t200000\t1\t1\t978\t1800\t1800\t1\t1\t1\n"
     ∷ []
     )
     ≡ said
-unfolding lineOf dealLine collateralLine guaranteeLine ifRead fieldsOf withNumber andThen isEnd fieldOf numberOf numberRead numberAllowed digitsOf decimalFrom within if_then_else_
+unfolding lineOf widthUnder withSovereign dealLine collateralLine guaranteeLine ifRead fieldsOf withNumber andThen isEnd fieldOf numberOf numberRead numberAllowed digitsOf decimalFrom within if_then_else_
 lines-read = refl
 
 -- "unknown letter, wrong number of fields, bad number, or no line feed"
@@ -106,19 +107,19 @@ ill =
     ∷ bytes "\n"
     ∷ []
 
-all-malformed : map lineOf ill ≡ replicate 16 Malformed
-unfolding lineOf dealLine collateralLine guaranteeLine ifRead fieldsOf withNumber andThen isEnd fieldOf numberOf numberRead numberAllowed digitsOf decimalFrom within if_then_else_
+all-malformed : map (lineOf 1) ill ≡ replicate 16 Malformed
+unfolding lineOf widthUnder withSovereign dealLine collateralLine guaranteeLine ifRead fieldsOf withNumber andThen isEnd fieldOf numberOf numberRead numberAllowed digitsOf decimalFrom within if_then_else_
 all-malformed = refl
 
 -- each field in its place, and none cut to a narrower width
 fields-in-place :
-    map lineOf (
+    map (lineOf 1) (
     bytes "D\t9123456789000\t9123456789001\t9123456789002\t9123456789003\t9123456789004\t9123456789005\t9123456789006\t9123456789007\t9123456789008\t9123456789009\n"
     ∷ bytes "C\t9123456789000\t9123456789001\t9123456789002\t9123456789003\t9123456789004\t9123456789005\t9123456789006\t9123456789007\t9123456789008\t9123456789009\t9123456789010\n"
     ∷ bytes "G\t9123456789000\t9123456789001\t9123456789002\t9123456789003\t9123456789004\t9123456789005\t9123456789006\t9123456789007\t9123456789008\n"
     ∷ []
     )
-    ≡ DealLine (termsIn (9123456789000 ∷ 9123456789001 ∷ 9123456789002 ∷ 9123456789003 ∷ 9123456789004 ∷ 9123456789005 ∷ 9123456789006 ∷ 9123456789007 ∷ 9123456789008 ∷ 9123456789009 ∷ []))
+    ≡ DealLine (termsIn (9123456789000 ∷ 9123456789001 ∷ 9123456789002 ∷ 0 ∷ 9123456789003 ∷ 9123456789004 ∷ 9123456789005 ∷ 9123456789006 ∷ 9123456789007 ∷ 9123456789008 ∷ 9123456789009 ∷ 1 ∷ []))
     ∷ CollateralLine (record {
       amount = 9123456789000;
       asset = record { goods = 9123456789001; step = 9123456789002; life = 9123456789003 };
@@ -132,7 +133,7 @@ fields-in-place :
     })
     ∷ GuaranteeLine (record {
       amount = 9123456789000;
-      provider = record { class = 9123456789001; step = 9123456789002 };
+      provider = record { class = 9123456789001; step = 9123456789002; «sovereign_step» = 0 };
       currency = 9123456789003;
       residual = 9123456789004;
       original = 9123456789005;
@@ -141,26 +142,26 @@ fields-in-place :
       «not_in_rating» = 9123456789008;
     })
     ∷ []
-unfolding lineOf dealLine collateralLine guaranteeLine ifRead fieldsOf withNumber andThen isEnd fieldOf numberOf numberRead numberAllowed digitsOf decimalFrom within if_then_else_
+unfolding lineOf widthUnder withSovereign dealLine collateralLine guaranteeLine ifRead fieldsOf withNumber andThen isEnd fieldOf numberOf numberRead numberAllowed digitsOf decimalFrom within if_then_else_
 fields-in-place = refl
 
 -- 100,000 days in each field that holds days (02: L11), whole
 abbrev longest : List Line
 longest =
-    DealLine (termsIn (1 ∷ 2 ∷ 3 ∷ 4 ∷ 5 ∷ 6 ∷ 100000 ∷ 7 ∷ 8 ∷ 100000 ∷ []))
+    DealLine (termsIn (1 ∷ 2 ∷ 3 ∷ 0 ∷ 4 ∷ 5 ∷ 6 ∷ 100000 ∷ 7 ∷ 8 ∷ 100000 ∷ 1 ∷ []))
     ∷ CollateralLine (collateralIn (1 ∷ 2 ∷ 3 ∷ 100000 ∷ 4 ∷ 100000 ∷ 100000 ∷ 5 ∷ 6 ∷ 7 ∷ 8 ∷ []))
-    ∷ GuaranteeLine (guaranteeIn (1 ∷ 2 ∷ 3 ∷ 4 ∷ 100000 ∷ 100000 ∷ 5 ∷ 6 ∷ 7 ∷ []))
+    ∷ GuaranteeLine (guaranteeIn (1 ∷ 2 ∷ 3 ∷ 0 ∷ 4 ∷ 100000 ∷ 100000 ∷ 5 ∷ 6 ∷ 7 ∷ []))
     ∷ []
 
 longest-read :
-    map lineOf (
+    map (lineOf 1) (
     bytes "D\t1\t2\t3\t4\t5\t6\t100000\t7\t8\t100000\n"
     ∷ bytes "C\t1\t2\t3\t100000\t4\t100000\t100000\t5\t6\t7\t8\n"
     ∷ bytes "G\t1\t2\t3\t4\t100000\t100000\t5\t6\t7\n"
     ∷ []
     )
     ≡ longest
-unfolding lineOf dealLine collateralLine guaranteeLine ifRead fieldsOf withNumber andThen isEnd fieldOf numberOf numberRead numberAllowed digitsOf decimalFrom within if_then_else_
+unfolding lineOf widthUnder withSovereign dealLine collateralLine guaranteeLine ifRead fieldsOf withNumber andThen isEnd fieldOf numberOf numberRead numberAllowed digitsOf decimalFrom within if_then_else_
 longest-read = refl
 
 -- of all bytes the tab alone parts fields, and the line feed alone ends them, with nothing before it
@@ -183,8 +184,55 @@ isRead (CollateralLine c) = true
 isRead (GuaranteeLine g) = true
 
 letters-only :
-    (only (byte "D") (λ b. isRead (lineOf (b ∷ bytes "\t1\t1\t1\t1\t1\t1\t1\t1\t1\t1\n"))) ≡ true)
-    × (only (byte "C") (λ b. isRead (lineOf (b ∷ bytes "\t1\t1\t1\t1\t1\t1\t1\t1\t1\t1\t1\n"))) ≡ true)
-    × (only (byte "G") (λ b. isRead (lineOf (b ∷ bytes "\t1\t1\t1\t1\t1\t1\t1\t1\t1\n"))) ≡ true)
-unfolding isRead lineOf dealLine collateralLine guaranteeLine ifRead fieldsOf withNumber andThen isEnd fieldOf numberOf numberRead numberAllowed digitsOf decimalFrom within if_then_else_
+    (only (byte "D") (λ b. isRead (lineOf 1 (b ∷ bytes "\t1\t1\t1\t1\t1\t1\t1\t1\t1\t1\n"))) ≡ true)
+    × (only (byte "C") (λ b. isRead (lineOf 1 (b ∷ bytes "\t1\t1\t1\t1\t1\t1\t1\t1\t1\t1\t1\n"))) ≡ true)
+    × (only (byte "G") (λ b. isRead (lineOf 1 (b ∷ bytes "\t1\t1\t1\t1\t1\t1\t1\t1\t1\n"))) ≡ true)
+unfolding isRead lineOf widthUnder withSovereign dealLine collateralLine guaranteeLine ifRead fieldsOf withNumber andThen isEnd fieldOf numberOf numberRead numberAllowed digitsOf decimalFrom within if_then_else_
 letters-only = (refl, refl, refl)
+
+-- THE SOVEREIGN'S STEP. 02: L5
+
+-- under the second heading a line D has eleven numbers and a line G ten, each in its place; the edition is the heading's
+fields-in-place-2 :
+    map (lineOf 2) (
+    bytes "D\t9123456789000\t9123456789001\t9123456789002\t9123456789003\t9123456789004\t9123456789005\t9123456789006\t9123456789007\t9123456789008\t9123456789009\t9123456789010\n"
+    ∷ bytes "G\t9123456789000\t9123456789001\t9123456789002\t9123456789003\t9123456789004\t9123456789005\t9123456789006\t9123456789007\t9123456789008\t9123456789009\n"
+    ∷ []
+    )
+    ≡ DealLine (record {
+      amount = 9123456789000;
+      counterparty = record { class = 9123456789001; step = 9123456789002; «sovereign_step» = 9123456789003 };
+      currency = 9123456789004;
+      kind = 9123456789005;
+      interval = 9123456789006;
+      residual = 9123456789007;
+      lent = record { goods = 9123456789008; step = 9123456789009; life = 9123456789010 };
+      edition = 2;
+    })
+    ∷ GuaranteeLine (record {
+      amount = 9123456789000;
+      provider = record { class = 9123456789001; step = 9123456789002; «sovereign_step» = 9123456789003 };
+      currency = 9123456789004;
+      residual = 9123456789005;
+      original = 9123456789006;
+      lawful = 9123456789007;
+      direct = 9123456789008;
+      «not_in_rating» = 9123456789009;
+    })
+    ∷ []
+unfolding lineOf widthUnder withSovereign dealLine collateralLine guaranteeLine ifRead fieldsOf withNumber andThen isEnd fieldOf numberOf numberRead numberAllowed digitsOf decimalFrom within if_then_else_
+fields-in-place-2 = refl
+
+-- under either heading the other's lines D and G are malformed, and lines C are the same
+abbrev lines-1 : List (List ℕ)
+lines-1 = bytes "D\t500\t2\t0\t978\t3\t1\t30\t1\t0\t0\n" ∷ bytes "G\t500\t2\t0\t978\t30\t30\t1\t1\t1\n" ∷ []
+
+abbrev lines-2 : List (List ℕ)
+lines-2 = bytes "D\t500\t2\t0\t6\t978\t3\t1\t30\t1\t0\t0\n" ∷ bytes "G\t500\t2\t0\t6\t978\t30\t30\t1\t1\t1\n" ∷ []
+
+other-heading :
+    (map isRead (map (lineOf 1) lines-1) ∷ map isRead (map (lineOf 2) lines-2) ∷ map isRead (map (lineOf 2) lines-1) ∷ map isRead (map (lineOf 1) lines-2) ∷ []
+    ≡ replicate 2 (replicate 2 true) ++ replicate 2 (replicate 2 false))
+    × (let c = bytes "C\t500\t1\t0\t0\t978\t30\t30\t1\t1\t1\t0\n" in (lineOf 2 c ≡ lineOf 1 c) × (isRead (lineOf 2 c) ≡ true))
+unfolding isRead lineOf widthUnder withSovereign dealLine collateralLine guaranteeLine ifRead fieldsOf withNumber andThen isEnd fieldOf numberOf numberRead numberAllowed digitsOf decimalFrom within if_then_else_
+other-heading = (refl, (refl, refl))

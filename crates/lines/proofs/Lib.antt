@@ -2,3 +2,4 @@ pub mod Examples
 pub mod FieldLaws
 pub mod LineLaws
 pub mod NumberLaws
+pub mod SovereignLaws

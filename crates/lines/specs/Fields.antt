@@ -41,11 +41,11 @@ unfoldable pub fieldsOf : ℕ → List ℕ → Option (List ℕ)
 fieldsOf zero rest = if isEnd rest then some [] else none
 fieldsOf (suc n) rest = withNumber (fieldOf rest) none (λ value count. andThen value (fieldsOf n (drop (1 + count) rest)))
 
--- the longest line is C
+-- the longest lines are C, and D with the sovereign's step
 abbrev pub mostFields : ℕ
 mostFields = collateralWidth
 
--- held in as many places as it has numbers; all zeros where they could not be read
+-- a line's numbers in as many places as the longest line has, zeros behind them; all zeros where they could not be read
 unfoldable pub fieldsHeld : Option (List ℕ) → Fields
 fieldsHeld none = record { read = false; values = replicate mostFields 0 }
 fieldsHeld (some values) = record { read = true; values = inPlaces mostFields 0 values }

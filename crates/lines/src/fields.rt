@@ -9,8 +9,8 @@ use deal::fields::COLLATERAL_WIDTH;
 use text::LINE_FEED;
 use text::TAB;
 
-// Of the longest line, C.
-const MOST_FIELDS: usize = COLLATERAL_WIDTH;
+// Of the longest lines, C, and D with the sovereign's step.
+pub const MOST_FIELDS: usize = COLLATERAL_WIDTH;
 
 pub struct Fields {
     pub read: bool,

@@ -2,3 +2,4 @@
 mod fields;
 pub mod line;
 mod number;
+mod sovereign;

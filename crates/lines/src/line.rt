@@ -3,13 +3,15 @@ ghost use mathlib.Core.Path.{_≡_};
 ghost use Rattle.lines.specs.Lines.{collateralLine, dealLine, guaranteeLine, ifHeld, lineOf};
 use crate::fields::Fields;
 use crate::fields::read_fields;
+use crate::sovereign::width_under;
+use crate::sovereign::with_sovereign;
 use deal::collateral::Collateral;
 use deal::fields::COLLATERAL_WIDTH;
 use deal::fields::GUARANTEE_WIDTH;
 use deal::fields::TERMS_WIDTH;
 use deal::fields::collateral_in;
 use deal::fields::guarantee_in;
-use deal::fields::terms_in;
+use deal::fields::terms_under;
 use deal::guarantee::Guarantee;
 use deal::terms::Terms;
 
@@ -20,14 +22,18 @@ pub enum Line {
     Malformed,
 }
 
-fn deal_line(fields: Fields) -> Line
-    ensures { λ r. ⌜ r ≡ ifHeld dealLine fields ⌝ }
+// Of a line D, which leaves the edition out.
+const DEAL_WIDTH: usize = TERMS_WIDTH - 1;
+
+fn deal_line(edition: u64, fields: Fields) -> Line
+    ensures { λ r. ⌜ r ≡ ifHeld (dealLine edition) fields ⌝ }
 {
     if !fields.read {
         return Line::Malformed;
     }
     let values = fields.values;
-    let said = terms_in(&values);
+    let own = with_sovereign(edition, values);
+    let said = terms_under(edition, &own);
     Line::DealLine(said)
 }
 
@@ -42,20 +48,21 @@ fn collateral_line(fields: Fields) -> Line
     Line::CollateralLine(said)
 }
 
-fn guarantee_line(fields: Fields) -> Line
-    ensures { λ r. ⌜ r ≡ ifHeld guaranteeLine fields ⌝ }
+fn guarantee_line(edition: u64, fields: Fields) -> Line
+    ensures { λ r. ⌜ r ≡ ifHeld (guaranteeLine edition) fields ⌝ }
 {
     if !fields.read {
         return Line::Malformed;
     }
     let values = fields.values;
-    let said = guarantee_in(&values);
+    let own = with_sovereign(edition, values);
+    let said = guarantee_in(&own);
     Line::GuaranteeLine(said)
 }
 
-// A line, with its line feed, if it has one.
-pub fn read_line(line: &[u8]) -> Line
-    ensures { λ r. ⌜ r ≡ lineOf (now (line .entry)) ⌝ }
+// A line, with its line feed, if it has one, of a book headed by this edition.
+pub fn read_line(edition: u64, line: &[u8]) -> Line
+    ensures { λ r. ⌜ r ≡ lineOf edition (now (line .entry)) ⌝ }
 {
     if line.len() == 0 {
         return Line::Malformed;
@@ -63,9 +70,15 @@ pub fn read_line(line: &[u8]) -> Line
     let letter = line[0];
     let at: usize = 1;
     match letter {
-        b'D' => deal_line(read_fields(&line[at..], TERMS_WIDTH)),
+        b'D' => {
+            let width = width_under(edition, DEAL_WIDTH);
+            deal_line(edition, read_fields(&line[at..], width))
+        }
         b'C' => collateral_line(read_fields(&line[at..], COLLATERAL_WIDTH)),
-        b'G' => guarantee_line(read_fields(&line[at..], GUARANTEE_WIDTH)),
+        b'G' => {
+            let width = width_under(edition, GUARANTEE_WIDTH);
+            guarantee_line(edition, read_fields(&line[at..], width))
+        }
         _ => Line::Malformed,
     }
 }

@@ -2,19 +2,19 @@
 use Prim.Native.Nat.{ℕ}
 use mathlib.Core.Path.{_≡_, refl}
 use mathlib.Core.List.{List, [], _∷_, map}
-use lib.ListN.{take}
-use Rattle.deal.specs.Fields.{termsIn}
+use lib.ListN.{getD, replicate, take}
+use Rattle.deal.specs.Fields.{guaranteeIn, termsIn}
 use Rattle.deal.specs.Records.{dealWith}
 use Rattle.deal.specs.declared.terms.Terms.{Terms}
 use Rattle.deal.specs.declared.collateral.Collateral.{Collateral}
 use Rattle.deal.specs.declared.guarantee.Guarantee.{Guarantee}
 use Rattle.relief.specs.Outcomes.{outcomeValue, outcomeGround}
-use Rattle.relief.specs.Report.{reportOf}
+use Rattle.relief.specs.Report.{noGuarantee, reportOf}
 use Rattle.relief.proofs.Computed.{computed}
 
 -- secured lending in cash to a corporate at this step, for 1,800 days
 abbrev loan : ℕ → Terms
-loan step = termsIn (10000 ∷ 3 ∷ step ∷ 978 ∷ 3 ∷ 1 ∷ 1800 ∷ 1 ∷ 0 ∷ 0 ∷ [])
+loan step = termsIn (10000 ∷ 3 ∷ step ∷ 0 ∷ 978 ∷ 3 ∷ 1 ∷ 1800 ∷ 1 ∷ 0 ∷ 0 ∷ 1 ∷ [])
 
 -- goods, step, issue life; residual and original term; lawful, unrelated, not_in_rating
 abbrev pledge : ℕ → ℕ → ℕ → ℕ → ℕ → ℕ → ℕ → ℕ → Collateral
@@ -34,7 +34,7 @@ pledge goods step life residual original lawful unrelated «not_in_rating» = re
 abbrev guarantee : ℕ → ℕ → ℕ → ℕ → ℕ → ℕ → ℕ → Guarantee
 guarantee class currency residual original lawful direct «not_in_rating» = record {
   amount = 9000;
-  provider = record { class = class; step = 0 };
+  provider = record { class = class; step = 0; «sovereign_step» = 0 };
   currency = currency;
   residual = residual;
   original = original;
@@ -112,14 +112,14 @@ ten = record {
   listed = 0;
 }
 
-pub capped : reportOf (dealWith (termsIn (100 ∷ 3 ∷ 0 ∷ 978 ∷ 1 ∷ 6 ∷ 1800 ∷ 8 ∷ 0 ∷ 0 ∷ [])) (ten ∷ []) []) .exposure ≡ 100
+pub capped : reportOf (dealWith (termsIn (100 ∷ 3 ∷ 0 ∷ 0 ∷ 978 ∷ 1 ∷ 6 ∷ 1800 ∷ 8 ∷ 0 ∷ 0 ∷ 1 ∷ [])) (ten ∷ []) []) .exposure ≡ 100
 unfolding computed
 capped = refl
 
 -- 29 at an equal weight: a bank at step 2 for a corporate at step 2
 pub equal-weight : guaranteeGrounds (loan 2) (record {
   amount = 9000;
-  provider = record { class = 2; step = 2 };
+  provider = record { class = 2; step = 2; «sovereign_step» = 0 };
   currency = 978;
   residual = 1800;
   original = 1800;
@@ -147,13 +147,13 @@ by-listing = refl
 
 -- of goods lent their own life counts, and not the deal's term: 1,000,000 of sovereign debt with 360 days to run, raised by 5000 millionths,
 -- less 9,000 of cash
-pub lent-life : reportOf (dealWith (termsIn (1000000 ∷ 3 ∷ 0 ∷ 978 ∷ 2 ∷ 1 ∷ 1800 ∷ 2 ∷ 1 ∷ 360 ∷ [])) (pledge 1 0 0 1800 1800 1 1 1 ∷ []) []) .exposure ≡ 996000
+pub lent-life : reportOf (dealWith (termsIn (1000000 ∷ 3 ∷ 0 ∷ 0 ∷ 978 ∷ 2 ∷ 1 ∷ 1800 ∷ 2 ∷ 1 ∷ 360 ∷ 1 ∷ [])) (pledge 1 0 0 1800 1800 1 1 1 ∷ []) []) .exposure ≡ 996000
 unfolding computed
 lent-life = refl
 
 -- short cover that lasts as long as its deal is no mismatch: neither 25 nor 26
-pub no-mismatch : (collateralGrounds (termsIn (10000 ∷ 3 ∷ 0 ∷ 978 ∷ 3 ∷ 1 ∷ 30 ∷ 1 ∷ 0 ∷ 0 ∷ [])) (pledge 1 0 0 30 30 1 1 1 ∷ []) 1 ≡ 0 ∷ [])
-    × (guaranteeGrounds (termsIn (10000 ∷ 3 ∷ 0 ∷ 978 ∷ 3 ∷ 1 ∷ 30 ∷ 1 ∷ 0 ∷ 0 ∷ [])) (guarantee 2 978 30 30 1 1 1 ∷ []) 1 ≡ 0 ∷ [])
+pub no-mismatch : (collateralGrounds (termsIn (10000 ∷ 3 ∷ 0 ∷ 0 ∷ 978 ∷ 3 ∷ 1 ∷ 30 ∷ 1 ∷ 0 ∷ 0 ∷ 1 ∷ [])) (pledge 1 0 0 30 30 1 1 1 ∷ []) 1 ≡ 0 ∷ [])
+    × (guaranteeGrounds (termsIn (10000 ∷ 3 ∷ 0 ∷ 0 ∷ 978 ∷ 3 ∷ 1 ∷ 30 ∷ 1 ∷ 0 ∷ 0 ∷ 1 ∷ [])) (guarantee 2 978 30 30 1 1 1 ∷ []) 1 ≡ 0 ∷ [])
 unfolding computed
 no-mismatch = (refl, refl)
 
@@ -161,3 +161,38 @@ no-mismatch = (refl, refl)
 pub unrated-others : guaranteeGrounds (loan 6) (guarantee 1 978 1800 1800 1 1 1 ∷ guarantee 2 978 1800 1800 1 1 1 ∷ guarantee 3 978 1800 1800 1 1 1 ∷ []) 3 ≡ 0 ∷ 0 ∷ 28 ∷ []
 unfolding computed
 unrated-others = refl
+
+-- THE SOVEREIGN FLOOR. 02: L5
+
+-- a counterparty of this class, unrated, under an edition and a sovereign's step: the weighted amount of 10,000 without protection
+abbrev unrated : ℕ → ℕ → ℕ → Terms
+unrated class edition sovereign = termsIn (10000 ∷ class ∷ 0 ∷ sovereign ∷ 978 ∷ 3 ∷ 1 ∷ 1800 ∷ 1 ∷ 0 ∷ 0 ∷ edition ∷ [])
+
+abbrev amounts : ℕ → ℕ → List ℕ
+amounts class edition = map (λ s. reportOf (dealWith (unrated class edition s) [] []) .rwa) (0 ∷ 1 ∷ 2 ∷ 3 ∷ 4 ∷ 5 ∷ 6 ∷ [])
+
+-- a bank's 50 and a corporate's 100, and the larger of each and its sovereign's
+pub counterparty-floor :
+    (amounts 2 1 ≡ replicate 7 5000)
+    × ((amounts 2 2 ≡ 10000 ∷ 5000 ∷ 5000 ∷ 5000 ∷ 10000 ∷ 10000 ∷ 15000 ∷ [])
+    × ((amounts 3 1 ≡ replicate 7 10000) × (amounts 3 2 ≡ 10000 ∷ 10000 ∷ 10000 ∷ 10000 ∷ 10000 ∷ 10000 ∷ 15000 ∷ [])))
+unfolding computed
+counterparty-floor = (refl, (refl, (refl, refl)))
+
+-- guarantees of 9,000 by an unrated bank, for an unrated corporate under a sovereign of step 6: its own 150 under the second edition, 100
+-- under the first. Recognised while the bank weighs less: under the first edition at 50, under the second by its sovereign's step
+abbrev backedBy : ℕ → ℕ → ℕ → Guarantee
+backedBy class step sovereign = guaranteeIn (9000 ∷ class ∷ step ∷ sovereign ∷ 978 ∷ 1800 ∷ 1800 ∷ 1 ∷ 1 ∷ 1 ∷ [])
+
+abbrev outcomes : ℕ → ℕ → ℕ → List (List ℕ)
+outcomes edition class step =
+    map (λ s. let r = reportOf (dealWith (unrated 3 edition 6) [] (backedBy class step s ∷ [])) in outcomeGround (getD (r .guarantees) 0 noGuarantee .outcome) ∷ r .rwa ∷ [])
+    (0 ∷ 1 ∷ 4 ∷ 6 ∷ [])
+
+pub provider-floor :
+    (outcomes 1 2 0 ≡ replicate 4 (0 ∷ 5500 ∷ []))
+    × ((outcomes 2 2 0 ≡ (0 ∷ 10500 ∷ []) ∷ (0 ∷ 6000 ∷ []) ∷ (0 ∷ 10500 ∷ []) ∷ (29 ∷ 15000 ∷ []) ∷ [])
+    -- rated, it has no floor; an unrated other entity has ground 28
+    × ((outcomes 2 2 1 ≡ replicate 4 (0 ∷ 3300 ∷ [])) × (outcomes 2 3 0 ≡ replicate 4 (28 ∷ 15000 ∷ []))))
+unfolding computed
+provider-floor = (refl, (refl, (refl, refl)))

@@ -8,14 +8,14 @@ use Rattle.base.specs.Rounding.{roundUp}
 use Rattle.base.specs.Sum.{sumOf}
 use Rattle.tables.specs.Eligibility.{eligible, bankDebtEligible, equityOrGold}
 use Rattle.tables.specs.Haircuts.{rowOf, bandOf, issuerColumn, debtHaircut, haircut, lentHaircut}
-use Rattle.tables.specs.Weights.{stepColumn, tableWeight, counterpartyWeight, providerWeight}
+use Rattle.tables.specs.Weights.{atLeastSovereign, counterpartyWeight, hasFloor, ownWeight, providerWeight, stepColumn, tableWeight}
 use Rattle.scaling.specs.Period.{minimumPeriod, holdingPeriod, guaranteePeriod}
 use Rattle.scaling.specs.Scaling.{scaled}
 use Rattle.valuation.specs.Haircuts.{scaledCurrencyHaircut, combinedHaircut}
 use Rattle.valuation.specs.Protection.{keepShare, volatilityAdjustedValue, mismatched, maturityAdjusted, recognised}
 use Rattle.valuation.specs.Exposure.{volatilityAdjustedExposure, riskWeightedAmount}
 use Rattle.cover.specs.Cover.{lowerWeighted, equal, before, portion, coveredAfter, covered, uncovered, weightedSum}
-use Rattle.deal.specs.Parties.{partyStepAllowed}
+use Rattle.deal.specs.Parties.{partyStepAllowed, partyStepsAllowed, sovereignStepAllowed}
 use Rattle.deal.specs.Assets.{assetStepAllowed, lifeAllowed}
 use Rattle.deal.specs.Terms.{termsTests, termsRefusal}
 use Rattle.deal.specs.Collateral.{collateralTests, collateralRefusal, collateralListAllowed}
@@ -33,5 +33,5 @@ use Rattle.relief.specs.Exposure.{scaledLentHaircut, adjustedExposureOf,
 use Rattle.relief.specs.Report.{fullReport, reportUnder, reportOf}
 
 unfoldable pub computed : Deal → Report
-unfolding accepted recordAllowed tableFor collateralListAllowed guaranteeListAllowed termsRefusal termsTests collateralRefusal collateralTests guaranteeRefusal guaranteeTests firstOr within partyStepAllowed assetStepAllowed lifeAllowed if_then_else_ least between roundUp sumOf zipWith eligible bankDebtEligible equityOrGold rowOf bandOf issuerColumn debtHaircut haircut lentHaircut stepColumn tableWeight counterpartyWeight providerWeight minimumPeriod holdingPeriod guaranteePeriod scaled scaledCurrencyHaircut combinedHaircut keepShare volatilityAdjustedValue mismatched maturityAdjusted recognised volatilityAdjustedExposure riskWeightedAmount lowerWeighted equal before portion coveredAfter covered uncovered weightedSum groundNumber groundWith outcomeValue outcomeGround outcomeFor shortOriginal shortResidual combinedHaircutOf collateralValue collateralGrounds collateralGround collateralOutcome guaranteeValue guaranteeGrounds guaranteeGround guaranteeOutcome scaledLentHaircut adjustedExposureOf collateralTotal exposureAfter riskWeightedAmountOf fullReport reportUnder
+unfolding accepted recordAllowed tableFor collateralListAllowed guaranteeListAllowed termsRefusal termsTests collateralRefusal collateralTests guaranteeRefusal guaranteeTests firstOr within partyStepAllowed sovereignStepAllowed partyStepsAllowed assetStepAllowed lifeAllowed if_then_else_ least between roundUp sumOf zipWith eligible bankDebtEligible equityOrGold rowOf bandOf issuerColumn debtHaircut haircut lentHaircut stepColumn tableWeight ownWeight hasFloor atLeastSovereign counterpartyWeight providerWeight minimumPeriod holdingPeriod guaranteePeriod scaled scaledCurrencyHaircut combinedHaircut keepShare volatilityAdjustedValue mismatched maturityAdjusted recognised volatilityAdjustedExposure riskWeightedAmount lowerWeighted equal before portion coveredAfter covered uncovered weightedSum groundNumber groundWith outcomeValue outcomeGround outcomeFor shortOriginal shortResidual combinedHaircutOf collateralValue collateralGrounds collateralGround collateralOutcome guaranteeValue guaranteeGrounds guaranteeGround guaranteeOutcome scaledLentHaircut adjustedExposureOf collateralTotal exposureAfter riskWeightedAmountOf fullReport reportUnder
 computed d = reportOf d

@@ -59,11 +59,11 @@ scaled-lent-haircut-bound t p =
 -- the parties' weights, to 150
 pub counterparty-low : (t : Terms) → PlainTerms t → counterpartyWeightOf (tableFor t) t ≤ 1000
 unfolding tableFor
-counterparty-low t p = omega (arith, counterparty-bound (t .counterparty .class) (t .counterparty .step) (p .class .1) (p .step))
+counterparty-low t p = omega (arith, counterparty-bound (t .edition) (t .counterparty .class) (t .counterparty .step) (t .counterparty .«sovereign_step») (p .class .1) (p .step) (p .«sovereign_step»))
 
 provider-low : (t : Terms) (g : Guarantee) → PlainGuarantee g → providerWeightOf (tableFor t) g ≤ 1000
 unfolding tableFor
-provider-low t g p = omega (arith, provider-bound (g .provider .class) (g .provider .step) (p .class .1) (p .step))
+provider-low t g p = omega (arith, provider-bound (t .edition) (g .provider .class) (g .provider .step) (g .provider .«sovereign_step») (p .class .1) (p .step) (p .«sovereign_step»))
 
 -- what covers: values to the limit of an amount, and these weights
 pub pieces-small : (t : Terms) (gs : List Guarantee) → allPass gs (λ g. eqb (guaranteeRefusal g) 0) ≡ true → allPass (map (protectionOf (tableFor t) t) gs) withinLimits ≡ true

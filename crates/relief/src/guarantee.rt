@@ -92,7 +92,12 @@ pub fn guarantee_outcome(
     ensures { λ r. ⌜ (r .outcome ≡ guaranteeOutcome (tableFor terms) terms item) × (r .protection ≡ protectionOf (tableFor terms) terms item) ⌝ }
 {
     let provider = item.provider;
-    let weight = provider_weight(provider.class, provider.step);
+    let weight = provider_weight(
+        terms.edition,
+        provider.class,
+        provider.step,
+        provider.sovereign_step,
+    );
     let haircut = scaled_currency_haircut(factor, item.currency, terms.currency);
     let outcome = outcome_after_haircut(terms, item, haircut, weight, counterparty_weight);
     let value = outcome.value();

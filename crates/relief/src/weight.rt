@@ -12,5 +12,10 @@ pub fn weight_of(terms: Terms) -> u64
     ensures { λ r. ⌜ r ≡ counterpartyWeightOf (tableFor terms) terms ⌝ }
 {
     let counterparty = terms.counterparty;
-    counterparty_weight(counterparty.class, counterparty.step)
+    counterparty_weight(
+        terms.edition,
+        counterparty.class,
+        counterparty.step,
+        counterparty.sovereign_step,
+    )
 }

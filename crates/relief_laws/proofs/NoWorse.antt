@@ -25,6 +25,7 @@ pub record NoHigherTerms (t t′ : Terms) : Type 0 where
   pub amount : t′ .amount ≡ t .amount
   pub class : t′ .counterparty .class ≡ t .counterparty .class
   pub step : t′ .counterparty .step ≡ t .counterparty .step
+  pub «sovereign_step» : t′ .counterparty .«sovereign_step» ≡ t .counterparty .«sovereign_step»
   pub currency : t′ .currency ≡ t .currency
   pub kind : t′ .kind ≡ t .kind
   pub interval : t′ .interval ≤ t .interval
@@ -58,7 +59,7 @@ pub record NoWorseCollateral (dealCurrency : ℕ) (c c′ : Collateral) : Type 0
   pub step : SameOrBetter (c .asset .step) (c′ .asset .step)
   pub currency : SameOrDeals dealCurrency (c .currency) (c′ .currency)
 
--- Guarantees: the same provider's class, no lower an amount, term or condition, no worse a step or currency
+-- Guarantees: the same provider's class, no lower an amount, term or condition, no worse a step, sovereign's step or currency
 
 pub record NoLowerGuarantee (g g′ : Guarantee) : Type 0 where
   pub amount : g .amount ≤ g′ .amount
@@ -74,6 +75,7 @@ pub record NoWorseGuarantee (dealCurrency : ℕ) (g g′ : Guarantee) : Type 0 w
   pub after : PlainGuarantee g′
   pub fields : NoLowerGuarantee g g′
   pub step : SameOrBetter (g .provider .step) (g′ .provider .step)
+  pub «sovereign_step» : SameOrBetter (g .provider .«sovereign_step») (g′ .provider .«sovereign_step»)
   pub currency : SameOrDeals dealCurrency (g .currency) (g′ .currency)
 
 -- Lists

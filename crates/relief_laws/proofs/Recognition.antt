@@ -1,7 +1,7 @@
 -- What is no worse is worth no less, for every table with the laws; and what is recognised is lower-weighted than the counterparty, for every
 -- table. Assumes nothing.
 use Prim.Native.Nat.{ℕ, _≤_}
-use mathlib.Core.Path.{_≡_, refl, ap₂}
+use mathlib.Core.Path.{_≡_, refl}
 use mathlib.Core.Bool.{true}
 use mathlib.Core.Logic.{inl, inr, ⊎-elim}
 use native.Mathlib.Omega.{arith}
@@ -41,9 +41,9 @@ module _ (table : Table) (t : Terms) where
       ⊎-elim (λ z. inl z) (λ n. inr (leb-false _ _ (n .1 .1 .1 .1 .1 .1 .0)))
       (value-or-none (guaranteeValue t g) (guaranteeGrounds table t g) (guarantee-leaves table t _ g))
 
--- "The weight comes from class and step alone"
+-- a weight comes from class, step and the sovereign's step alone
 pub counterparty-same : (table : Table) {t t′ : Terms} → NoWorseTerms t t′ → counterpartyWeightOf table t′ ≡ counterpartyWeightOf table t
-counterparty-same table n = ap₂ (table .counterpartyWeight) (n .fields .class) (n .fields .step)
+counterparty-same table n = rw (n .fields .class, n .fields .step, n .fields .«sovereign_step»)
 
 -- the same currency or the deal's, a shorter period: no larger a currency haircut; with a smaller haircut, no larger a sum
 currency-no-more : {a a′ b b′ n n′ : ℕ} → b′ ≡ b → SameOrDeals b a a′ → n′ ≤ n → scaledCurrencyHaircut a′ b′ n′ ≤ scaledCurrencyHaircut a b n
@@ -86,8 +86,15 @@ module _ {table : Table} (laws : TableLaws table) where
   haircut-no-more {g} {g′} {s} {s′} {k} {l} {l′} hg hk same step long e =
       rw (same, long) (⊎-elim (λ q. rw q (omega arith)) (λ b. laws .step-haircut g s s′ k l hg b hk e) step)
 
-  weight-no-more : {c c′ s s′ : ℕ} → Provider c → c′ ≡ c → SameOrBetter s s′ → table .providerWeight c′ s′ ≤ table .providerWeight c s
-  weight-no-more {c} {c′} {s} {s′} hc same step = rw same (⊎-elim (λ q. rw q (omega arith)) (λ b. laws .step-weight c s s′ hc b) step)
+  -- a provider's weight no larger: by its own step, then by its sovereign's
+  weight-no-more : {c c′ s s′ k k′ : ℕ} → Provider c → s′ ≤ 6 → k ≤ 6 → c′ ≡ c → SameOrBetter s s′ → SameOrBetter k k′ →
+      table .providerWeight c′ s′ k′ ≤ table .providerWeight c s k
+  weight-no-more {c} {c′} {s} {s′} {k} {k′} hc hs hk same step sovereign =
+      rw same (
+      le-trans
+      (⊎-elim (λ q. rw q (omega arith)) (λ b. laws .sovereign-weight c s′ k k′ hc hs b) sovereign)
+      (⊎-elim (λ q. rw q (omega arith)) (λ b. laws .step-weight c s s′ k hc b hk) step)
+      )
 
   module _ {t t′ : Terms} (terms : NoWorseTerms t t′) where
     module _ {c c′ : Collateral} (item : NoWorseCollateral (t .currency) c c′) where
@@ -123,7 +130,7 @@ module _ {table : Table} (laws : TableLaws table) where
 
     module _ {g g′ : Guarantee} (item : NoWorseGuarantee (t .currency) g g′) where
       weighs-no-more : providerWeightOf table g′ ≤ providerWeightOf table g
-      weighs-no-more = weight-no-more (item .before .class) (item .fields .class) (item .step)
+      weighs-no-more = weight-no-more (item .before .class) (item .after .step) (item .before .«sovereign_step») (item .fields .class) (item .step) (item .«sovereign_step»)
 
       guarantee-stays : NoneMet (guaranteeGrounds table t g) → NoneMet (guaranteeGrounds table t′ g′)
       unfolding guaranteeGrounds

@@ -7,7 +7,7 @@ use lib.ListN.{length, drop, length-append}
 use Rattle.result.specs.Result.{room, resultText, written}
 use Rattle.result.proofs.Lines.{text-front, written-whole}
 use Rattle.book.specs.Answers.{answersFrom}
-use Rattle.book.specs.Book.{bookRefusal, answeredDeals, bookReply, resultsAfter}
+use Rattle.book.specs.Book.{answeredDeals, bookEdition, bookRefusal, bookReply, resultsAfter}
 use Rattle.base.specs.Writing.{overwrite}
 use Rattle.book.proofs.Answering.{answers-long}
 use Rattle.book.proofs.Refusing.{reply-refusal, reply-deals, results-made, answered-room}
@@ -18,10 +18,10 @@ module _ (book before : List ℕ) (long : length before ≡ places) where
   deals = length (answeredDeals book places)
 
   abbrev answers : List ℕ
-  answers = answersFrom 1 (answeredDeals book places)
+  answers = answersFrom (bookEdition book) 1 (answeredDeals book places)
 
   made : resultsAfter book before ≡ overwrite answers before
-  made = results-made book before ∙ ap (λ n. overwrite (answersFrom 1 (answeredDeals book n)) before) long
+  made = results-made book before ∙ ap (λ n. overwrite (answersFrom (bookEdition book) 1 (answeredDeals book n)) before) long
 
   room-for-all : room deals ≤ 172061
   room-for-all = omega (arith, answered-room book places)
@@ -29,7 +29,7 @@ module _ (book before : List ℕ) (long : length before ≡ places) where
   answers-inside : 4 * deals ≤ length (resultsAfter book before)
   answers-inside =
       let h : length (resultsAfter book before) ≡ length answers + length (drop (length answers) before) = ap length made ∙ length-append answers (drop (length answers) before) in
-      omega (arith, h, answers-long 1 (answeredDeals book places))
+      omega (arith, h, answers-long (bookEdition book) 1 (answeredDeals book places))
 
   pub all-written : written (bookReply book places .refusal) (bookReply book places .deals) (resultsAfter book before) 172061 ≡ printed book
   unfolding printed
@@ -38,7 +38,7 @@ module _ (book before : List ℕ) (long : length before ≡ places) where
       ∙ ap (λ d. written (bookRefusal book places) d (resultsAfter book before) 172061) (reply-deals book places)
       ∙ written-whole (bookRefusal book places) deals 172061 (resultsAfter book before) room-for-all answers-inside
       ∙ ap (resultText (bookRefusal book places) deals) made
-      ∙ text-front (bookRefusal book places) deals answers (drop (length answers) before) (omega (arith, answers-long 1 (answeredDeals book places)))
+      ∙ text-front (bookRefusal book places) deals answers (drop (length answers) before) (omega (arith, answers-long (bookEdition book) 1 (answeredDeals book places)))
 
 -- a buffer that starts with the text has at least its length
 pub printed-inside : (n : ℕ) (book rest after : List ℕ) → (n ≡ length (printed book)) × (after ≡ printed book ++ rest) → n ≤ length after

@@ -4,7 +4,7 @@ use mathlib.Core.List.{List}
 use lib.ListN.{length}
 use Rattle.result.specs.Result.{resultText}
 use Rattle.book.specs.Answers.{answersFrom}
-use Rattle.book.specs.Book.{bookRefusal, answeredDeals}
+use Rattle.book.specs.Book.{answeredDeals, bookEdition, bookRefusal}
 
 -- "The program `crmbook` lends a list for 2,048 deals (more is 13)": four numbers for each
 abbrev pub places : ℕ
@@ -14,4 +14,4 @@ places = 8192
 unfoldable pub printed : List ℕ → List ℕ
 printed book =
     let deals = answeredDeals book places in
-    resultText (bookRefusal book places) (length deals) (answersFrom 1 deals)
+    resultText (bookRefusal book places) (length deals) (answersFrom (bookEdition book) 1 deals)

@@ -18,7 +18,7 @@ unfoldable pub rows : ℕ → List ℕ → List ℕ
 rows zero results = []
 rows (suc k) results = row (getD results 0 0) (getD results 1 0) (getD results 2 0) (getD results 3 0) ++ rows k (drop 4 results)
 
--- "`RESULT`, tab, `1`"; every line ends in a line feed
+-- "`RESULT`, tab, `1`", under every header of a book; every line ends in a line feed
 abbrev pub heading : List ℕ
 heading = bytes "RESULT\t1\n"
 

@@ -1,12 +1,12 @@
 -- The starred figures of document 01, "Figures at the edges": of scaling by its written meaning, of tables and of the raised exposure as they
--- stand, of items and amounts through the report of a whole deal.
+-- stand, of items and amounts through the report of a whole deal; all under the first edition, the last number of terms here.
 use Prim.Native.Nat.{ℕ, _<_}
 use mathlib.Core.Path.{_≡_}
 use mathlib.Core.List.{List, [], _∷_}
 use lib.ListN.{getD}
 use Rattle.tables.specs.Goods.{cash, otherDebt, otherListedEquity}
 use Rattle.tables.specs.Classes.{retail}
-use Rattle.tables.specs.Table.{table2019}
+use Rattle.tables.specs.Table.{tableOf}
 use Rattle.tables.specs.Kinds.{repoStyle, securedLending}
 use Rattle.scaling.specs.Period.{holdingPeriod}
 use Rattle.scaling.specs.Scaling.{IsScaled}
@@ -47,11 +47,11 @@ abroad = 840
 
 -- secured lending in cash to an unrated corporate, which weighs 100, for 1,800 days
 abbrev loan : ℕ → ℕ → Terms
-loan amount interval = termsIn (amount ∷ 3 ∷ 0 ∷ home ∷ securedLending ∷ interval ∷ 1800 ∷ cash ∷ 0 ∷ 0 ∷ [])
+loan amount interval = termsIn (amount ∷ 3 ∷ 0 ∷ 0 ∷ home ∷ securedLending ∷ interval ∷ 1800 ∷ cash ∷ 0 ∷ 0 ∷ 1 ∷ [])
 
 -- repo-style lending of other listed equity, revalued every six business days
 abbrev repo : Terms
-repo = termsIn (100 ∷ 3 ∷ 0 ∷ home ∷ repoStyle ∷ 6 ∷ 1800 ∷ otherListedEquity ∷ 0 ∷ 0 ∷ [])
+repo = termsIn (100 ∷ 3 ∷ 0 ∷ 0 ∷ home ∷ repoStyle ∷ 6 ∷ 1800 ∷ otherListedEquity ∷ 0 ∷ 0 ∷ 1 ∷ [])
 
 -- goods with no step and no issue life, every condition met
 abbrev pledge : ℕ → ℕ → ℕ → ℕ → ℕ → Collateral
@@ -71,7 +71,7 @@ pledge amount goods currency residual original = record {
 abbrev guarantee : ℕ → ℕ → ℕ → ℕ → Guarantee
 guarantee amount class step currency = record {
   amount = amount;
-  provider = record { class = class; step = step };
+  provider = record { class = class; step = step; «sovereign_step» = 0 };
   currency = currency;
   residual = 1800;
   original = 1800;
@@ -108,7 +108,7 @@ portion place = getD (reportOf covered .guarantees) place noGuarantee .portion
 
 -- a retail deal with nothing pledged
 abbrev retailDeal : ℕ → Terms
-retailDeal amount = termsIn (amount ∷ retail ∷ 0 ∷ home ∷ securedLending ∷ 1 ∷ 1800 ∷ cash ∷ 0 ∷ 0 ∷ [])
+retailDeal amount = termsIn (amount ∷ retail ∷ 0 ∷ 0 ∷ home ∷ securedLending ∷ 1 ∷ 1800 ∷ cash ∷ 0 ∷ 0 ∷ 1 ∷ [])
 
 abbrev retailAmount : ℕ → ℕ
 retailAmount amount = reportOf (dealWith (retailDeal amount) [] []) .rwa
@@ -122,14 +122,14 @@ starred =
     -- "H 10000, n 40: 20000 exactly"
     ∷ scales 10000 40 20000
     -- "Type 8, kind 3, interval 250: scaled haircut above 1,000,000, value 0"
-    ∷ scales-above (table2019 .haircut otherListedEquity 0 0) (holdingPeriod securedLending 250) 1000000
+    ∷ scales-above (tableOf 1 .haircut otherListedEquity 0 0) (holdingPeriod securedLending 250) 1000000
     ∷ is (value 250 (pledge 1000000 otherListedEquity home 1800 1800)) 0
     ∷ is (ground 250 (pledge 1000000 otherListedEquity home 1800 1800)) 0
     -- (of a deal that is accepted)
     ∷ is (answer 250 (pledge 1000000 otherListedEquity home 1800 1800)) 0
     -- "Type 3, step 3, life 360: 20000; 361: 60000"
-    ∷ is (table2019 .haircut otherDebt 3 360) 20000
-    ∷ is (table2019 .haircut otherDebt 3 361) 60000
+    ∷ is (tableOf 1 .haircut otherDebt 3 360) 20000
+    ∷ is (tableOf 1 .haircut otherDebt 3 361) 60000
     -- "Same-currency cash 1,000,000, original 1,080, deal term 1,800: term 900 gives 473684; 91 gives 584; 90 gives ground 26"
     ∷ is (value 1 (pledge 1000000 cash home 900 1080)) 473684
     ∷ is (value 1 (pledge 1000000 cash home 91 1080)) 584

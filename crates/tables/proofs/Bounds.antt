@@ -10,11 +10,11 @@ use borrow.Author.Tests.{leb-true, eqb-false}
 use Rattle.base.specs.Choice.{if_then_else_}
 use Rattle.base.proofs.Choice.{either}
 use Rattle.base.proofs.Every.{every, every-at}
-use Rattle.tables.specs.Classes.{retail}
+use Rattle.tables.specs.Classes.{retail, sovereign}
 use Rattle.tables.specs.Eligibility.{eligible}
 use Rattle.tables.specs.Goods.{cash, sovereignDebt, securitisation, mainIndexEquity, otherListedEquity, gold}
 use Rattle.tables.specs.Haircuts.{cell, rowOf, bandOf, issuerColumn, debtHaircut, haircut, lentHaircut}
-use Rattle.tables.specs.Weights.{weights, stepColumn, tableWeight, providerWeight, counterpartyWeight}
+use Rattle.tables.specs.Weights.{atLeastSovereign, counterpartyWeight, ownWeight, providerWeight, stepColumn, tableWeight, weights}
 use Rattle.tables.proofs.Bands.{band-below}
 
 row-below : (step : ℕ) → rowOf step < 3
@@ -63,11 +63,20 @@ unfolding tableWeight stepColumn if_then_else_
 table-bound class step hc hs =
     leb-true _ _ (every-at 7 (weightBounded (class - 1)) (every-at 3 (λ c. every 7 (weightBounded c)) refl (class - 1) (omega arith)) step (omega arith))
 
-pub provider-bound : (class step : ℕ) → class ≤ 3 → step ≤ 6 → providerWeight class step ≤ 150
-unfolding providerWeight
-provider-bound class step hc hs = table-bound class step hc hs
-
-pub counterparty-bound : (class step : ℕ) → class ≤ 4 → step ≤ 6 → counterpartyWeight class step ≤ 150
-unfolding counterpartyWeight
-counterparty-bound class step hc hs =
+own-bound : (class step : ℕ) → class ≤ 4 → step ≤ 6 → ownWeight class step ≤ 150
+unfolding ownWeight
+own-bound class step hc hs =
     either (λ w. w ≤ 150) (eqb class retail) (λ e. omega arith) (λ e. table-bound class step (omega (arith, eqb-false class retail e)) hs)
+
+floor-bound : (applies : Bool) (own sovereignStep : ℕ) → own ≤ 150 → sovereignStep ≤ 6 → atLeastSovereign applies own sovereignStep ≤ 150
+unfolding atLeastSovereign
+floor-bound applies own sovereignStep ho hs =
+    either (λ w. w ≤ 150) applies (λ e. omega (arith, table-bound sovereign sovereignStep (omega arith) hs)) (λ e. ho)
+
+pub provider-bound : (edition class step sovereignStep : ℕ) → class ≤ 3 → step ≤ 6 → sovereignStep ≤ 6 → providerWeight edition class step sovereignStep ≤ 150
+unfolding providerWeight
+provider-bound edition class step sovereignStep hc hs hk = floor-bound _ _ sovereignStep (table-bound class step hc hs) hk
+
+pub counterparty-bound : (edition class step sovereignStep : ℕ) → class ≤ 4 → step ≤ 6 → sovereignStep ≤ 6 → counterpartyWeight edition class step sovereignStep ≤ 150
+unfolding counterpartyWeight
+counterparty-bound edition class step sovereignStep hc hs hk = floor-bound _ _ sovereignStep (own-bound class step hc hs) hk

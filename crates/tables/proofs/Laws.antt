@@ -1,9 +1,9 @@
--- A set of tables has the laws of any such set where one test over all its cells passes; the tables of 2019 pass it. Assumes nothing.
+-- A set of tables has the laws of any such set where one test over all its cells passes; the tables of every edition pass it. Assumes nothing.
 use Prim.Native.Nat.{ℕ, _≤_, _<_}
 use mathlib.Core.Path.{_≡_, refl}
-use mathlib.Core.Bool.{Bool, true, _&&_}
+use mathlib.Core.Bool.{Bool, true, false, _&&_}
 use native.Mathlib.Omega.{arith}
-use lib.Dec.{leb}
+use lib.Dec.{eqb, leb}
 use borrow.Author.Tests.{leb-true, le-leb}
 use Rattle.base.specs.Choice.{if_then_else_}
 use Rattle.base.specs.Range.{within}
@@ -11,8 +11,8 @@ use Rattle.base.proofs.Every.{every, implies, both, implied, every-at}
 use Rattle.base.proofs.Tests.{and-true}
 use Rattle.tables.specs.Eligibility.{eligible, bankDebtEligible, equityOrGold}
 use Rattle.tables.specs.Haircuts.{bandOf, rowOf, issuerColumn, debtHaircut, haircut, lentHaircut}
-use Rattle.tables.specs.Weights.{stepColumn, tableWeight, providerWeight}
-use Rattle.tables.specs.Table.{Table, TableLaws, NoWorseStep, table2019}
+use Rattle.tables.specs.Weights.{atLeastSovereign, hasFloor, providerWeight, stepColumn, tableWeight}
+use Rattle.tables.specs.Table.{Table, TableLaws, NoWorseStep, tableOf}
 use Rattle.tables.proofs.Bands.{sample, band-below, haircut-sample, lent-sample}
 
 abbrev better : ℕ → ℕ → Bool
@@ -36,12 +36,15 @@ module _ (t : Table) (sample : ℕ → ℕ) where
   abbrev goodsTest : ℕ → ℕ → ℕ → Bool
   goodsTest bands g s = implies (t .eligible g s 0) (t .eligible g s 1) && every 7 (steps bands g s)
 
-  abbrev weightTest : ℕ → ℕ → ℕ → Bool
-  weightTest c s s′ = implies (better s s′) (leb (t .providerWeight c s′) (t .providerWeight c s))
+  -- from step s to s′ under a sovereign of step k, and from a sovereign of step s to one of s′ at step k
+  abbrev weightTest : ℕ → ℕ → ℕ → ℕ → Bool
+  weightTest c s s′ k =
+      implies (better s s′) (leb (t .providerWeight c s′ k) (t .providerWeight c s k) && leb (t .providerWeight c k s′) (t .providerWeight c k s))
 
-  -- every type, step, better step and band; every class, step and better step
+  -- every type, step, better step and band; every class, step, better step and other step
   abbrev test : ℕ → Bool
-  test bands = every 10 (λ g. every 7 (goodsTest bands g)) && every 4 (λ c. every 7 (λ s. every 7 (weightTest c s)))
+  test bands =
+      every 10 (λ g. every 7 (goodsTest bands g)) && every 4 (λ c. every 7 (λ s. every 7 (λ s′. every 7 (weightTest c s s′))))
 
 -- where the haircuts depend on the band alone, and sample has a life of each band
 module _
@@ -74,24 +77,40 @@ module _
   at-lent : (g s s′ l : ℕ) → g ≤ 9 → NoWorseStep s′ s → t .lentHaircut g s′ (sample (bandOf l)) ≤ t .lentHaircut g s (sample (bandOf l))
   at-lent g s s′ l hg r = leb-true _ _ (both (every 2 (kept t sample g s s′ (bandOf l))) _ (at-step g s s′ l hg r) .1)
 
-  at-weight : (c s s′ : ℕ) → c ≤ 3 → NoWorseStep s′ s → weightTest t sample c s s′ ≡ true
-  at-weight c s s′ hc r =
-      every-at 7 (weightTest t sample c s)
-      (every-at 7 (λ s. every 7 (weightTest t sample c s))
-      (every-at 4 (λ c. every 7 (λ s. every 7 (weightTest t sample c s)))
-      (both (every 10 (λ g. every 7 (goodsTest t sample bands g))) _ passed .1) c (omega arith)) s (omega arith)) s′ (omega arith)
+  at-weight : (c s s′ k : ℕ) → c ≤ 3 → NoWorseStep s′ s → k ≤ 6 →
+      (leb (t .providerWeight c s′ k) (t .providerWeight c s k) && leb (t .providerWeight c k s′) (t .providerWeight c k s)) ≡ true
+  at-weight c s s′ k hc r hk =
+      implied _ _
+      (every-at 7 (weightTest t sample c s s′)
+      (every-at 7 (λ s′. every 7 (weightTest t sample c s s′))
+      (every-at 7 (λ s. every 7 (λ s′. every 7 (weightTest t sample c s s′)))
+      (every-at 4 (λ c. every 7 (λ s. every 7 (λ s′. every 7 (weightTest t sample c s s′))))
+      (both (every 10 (λ g. every 7 (goodsTest t sample bands g))) _ passed .1) c (omega arith)) s (omega arith)) s′ (omega arith)) k (omega arith))
+      (is-better s s′ r)
 
   pub laws-from-test : TableLaws t
   laws-from-test = record {
     step-eligible = λ g s s′ k hg r hk e. both (t .eligible g s′ k) _ (at-kept g s s′ k 0 (hg .1) r hk e) .0;
     step-haircut = λ g s s′ k l hg r hk e. rw (haircut-sample g s′ l, haircut-sample g s l) at (at-haircut g s s′ k l (hg .1) r hk e);
     step-lent = λ g s s′ l hg r. rw (lent-sample g s′ l, lent-sample g s l) at (at-lent g s s′ l (hg .1) r);
-    step-weight = λ c s s′ hc r. leb-true _ _ (implied _ _ (at-weight c s s′ (hc .1) r) (is-better s s′ r));
+    step-weight = λ c s s′ k hc r hk. leb-true _ _ (both (leb (t .providerWeight c s′ k) (t .providerWeight c s k)) _ (at-weight c s s′ k (hc .1) r hk) .0);
+    sovereign-weight = λ c k s s′ hc hk r. leb-true _ _ (both (leb (t .providerWeight c s′ k) (t .providerWeight c s k)) _ (at-weight c s s′ k (hc .1) r hk) .1);
     listed-eligible = λ g s hg hs e.
         implied _ _ (both (implies (t .eligible g s 0) (t .eligible g s 1)) _ (at-goods g s (hg .1) hs) .0) e;
   }
 
--- THE TABLES OF 2019 HAVE THE LAWS
-pub lawful2019 : TableLaws table2019
-unfolding eligible bankDebtEligible equityOrGold within rowOf bandOf issuerColumn debtHaircut haircut lentHaircut stepColumn tableWeight providerWeight if_then_else_
-lawful2019 = laws-from-test table2019 sample bandOf 3 band-below haircut-sample lent-sample refl
+-- the test of an edition's tables, which without its number is computed: it depends on the floor alone
+abbrev testOf : ℕ → Bool
+testOf edition = test (tableOf edition) sample 3
+
+passes : (edition : ℕ) → testOf edition ≡ true
+unfolding eligible bankDebtEligible equityOrGold within rowOf bandOf issuerColumn debtHaircut haircut lentHaircut stepColumn tableWeight atLeastSovereign hasFloor providerWeight if_then_else_
+passes edition = go (eqb edition 1) refl
+  where
+    go : (first : Bool) → eqb edition 1 ≡ first → testOf edition ≡ true
+    go true e = rw e
+    go false e = rw e
+
+-- THE TABLES OF EVERY EDITION HAVE THE LAWS
+pub lawful : (edition : ℕ) → TableLaws (tableOf edition)
+lawful edition = laws-from-test (tableOf edition) sample bandOf 3 band-below haircut-sample lent-sample (passes edition)

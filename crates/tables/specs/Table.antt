@@ -1,5 +1,5 @@
 -- The figures that depend on type, class and step, as one set, and laws of such a set that suffice for 01: Betterments:
--- with them a better step of goods or provider, or a listing, never raises the weighted amount
+-- with them a better step of goods, of a provider or of its sovereign, or a listing, never raises the weighted amount
 use Prim.Native.Nat.{ℕ, _≤_}
 use mathlib.Core.Path.{_≡_}
 use mathlib.Core.Bool.{Bool, true}
@@ -15,18 +15,19 @@ pub record Table : Type 0 where
   -- by type, step and issue life
   pub haircut : ℕ → ℕ → ℕ → ℕ
   pub lentHaircut : ℕ → ℕ → ℕ → ℕ
-  -- by class and step
-  pub counterpartyWeight : ℕ → ℕ → ℕ
-  pub providerWeight : ℕ → ℕ → ℕ
+  -- by class, step and the sovereign's step
+  pub counterpartyWeight : ℕ → ℕ → ℕ → ℕ
+  pub providerWeight : ℕ → ℕ → ℕ → ℕ
 
--- CRE20 and CRE22, version of 2019
-abbrev pub table2019 : Table
-table2019 = record {
+-- the tables of an edition: 1 is CRE20 and CRE22, version of 2019, as document 01 reads them, which is without the sovereign floor of CRE20.11 and
+-- CRE20.17; 2 is the same with it (02: L5). Other editions are refused by opening, adding and reporting
+abbrev pub tableOf : ℕ → Table
+tableOf edition = record {
   eligible = Eligibility.eligible;
   haircut = Haircuts.haircut;
   lentHaircut = Haircuts.lentHaircut;
-  counterpartyWeight = Weights.counterpartyWeight;
-  providerWeight = Weights.providerWeight;
+  counterpartyWeight = Weights.counterpartyWeight edition;
+  providerWeight = Weights.providerWeight edition;
 }
 
 -- a type of goods
@@ -55,7 +56,12 @@ pub record TableLaws (t : Table) : Type 0 where
       (goods step step′ life : ℕ) → Goods goods → NoWorseStep step′ step → t .lentHaircut goods step′ life ≤ t .lentHaircut goods step life
   -- a better step of a provider weighs no more
   pub step-weight :
-      (class step step′ : ℕ) → Provider class → NoWorseStep step′ step → t .providerWeight class step′ ≤ t .providerWeight class step
+      (class step step′ sovereignStep : ℕ) → Provider class → NoWorseStep step′ step → sovereignStep ≤ 6 →
+      t .providerWeight class step′ sovereignStep ≤ t .providerWeight class step sovereignStep
+  -- nor does a better step of its sovereign, whatever its own
+  pub sovereign-weight :
+      (class step sovereignStep sovereignStep′ : ℕ) → Provider class → step ≤ 6 → NoWorseStep sovereignStep′ sovereignStep →
+      t .providerWeight class step sovereignStep′ ≤ t .providerWeight class step sovereignStep
   -- a listing takes nothing away
   pub listed-eligible :
       (goods step : ℕ) → Goods goods → step ≤ 6 → t .eligible goods step 0 ≡ true → t .eligible goods step 1 ≡ true

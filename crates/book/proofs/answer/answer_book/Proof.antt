@@ -9,11 +9,13 @@ use lib.Dec.{eqb}
 use lib.ListN.{length, take, drop, length-drop}
 use Rattle.base.proofs.Tests.{tests}
 use Rattle.text.specs.Text.{firstLine, linesOf}
-use Rattle.text.proofs.Lines.{first-inside, rest-part}
+use lib.Seq.{length-take-le}
+use Rattle.text.proofs.Lines.{first-inside, first-taken, rest-part}
 use Rattle.book.specs.Deals.{dealsFrom}
 use Rattle.book.specs.Answers.{answersFrom}
+use Rattle.book.specs.Heading.{editionOf, headingOf}
 use Rattle.book.specs.Start.{ownFirst}
-use Rattle.book.specs.Book.{bookLimit, textBehind, bookTests, bookRefusal}
+use Rattle.book.specs.Book.{bookEdition, bookLimit, textBehind, bookTests, bookRefusal}
 use Rattle.base.specs.Writing.{overwrite}
 use Rattle.book.proofs.Refusing.{heading-long, second-wrong, reply-refusal, accepted-tests, enough, refused-results, accepted-results}
 use Rattle.book.proofs.answer.answer_book.Statement.{statement}
@@ -73,18 +75,34 @@ module _ (c : tie.After-line-end) where
   behind : take (length book₂ - c .line-end .result) (drop (c .line-end .result) book₂) ≡ textBehind book₂
   behind = rest-part book₂ _ ∙ ap (λ n. drop n book₂) ends
 
+slice-aggregate-read-heading : tie.Need-slice-aggregate-read-heading
+slice-aggregate-read-heading c = sym (length-take-le _ _ (inside (c .before)))
+
+read-heading-requires : tie.Need-read-heading-requires
+read-heading-requires c κs = tt
+
+edition-requires : tie.Need-edition-requires
+edition-requires c κs = tt
+
+-- the edition that the first line says
+headed : (c : tie.After-edition) → c .edition .result ≡ bookEdition (book₂ (c .before .before .before))
+headed c =
+    let e = c .before .before .before in
+    let line = ap (λ n. take n (book₂ e)) (ends e) ∙ first-taken (book₂ e) in
+    c .edition .ensures ∙ ap editionOf (c .before .read-heading .ensures ∙ ap headingOf line)
+
 sub-answer-deals : tie.Need-sub-answer-deals
-sub-answer-deals c = inside c
+sub-answer-deals c = inside (c .before .before .before)
 
 part-answer-deals-start : tie.Need-part-answer-deals-start
-part-answer-deals-start c = search (tests, inside c)
+part-answer-deals-start c = search (tests, inside (c .before .before .before))
 
 part-answer-deals-end : tie.Need-part-answer-deals-end
 part-answer-deals-end c = search tests
 
 answer-deals-requires : tie.Need-answer-deals-requires
 answer-deals-requires c κs =
-    let e = c .before .before in
+    let e = c .before .before .before .before .before in
     let l = length-drop (length (firstLine (book₂ e))) (book₂ e) in
     rw (behind e) (begins e, (omega (arith, l, short e, long e), enough (book₂ e) (places₂ e) (accepted e)))
 
@@ -93,11 +111,13 @@ same-length c = search tests
 
 returns-2 : tie.Need-returns-2
 returns-2 c =
-    let e = c .before .before .before .before .before in
+    let h = c .before .before .before .before .before in
+    let e = h .before .before .before in
     let r = e .before .before .before in (
       r .reply-to .ensures,
       c .before .before .answer-deals .ensures
-          ∙ ap (λ text. overwrite (answersFrom 1 (dealsFrom 2 (linesOf text))) (before₁ r)) (behind e)
+          ∙ ap (λ edition. overwrite (answersFrom edition 1 (dealsFrom 2 (linesOf (take (length (book₂ e) - e .line-end .result) (drop (e .line-end .result) (book₂ e)))))) (before₁ r)) (headed h)
+          ∙ ap (λ text. overwrite (answersFrom (bookEdition (book₁ r)) 1 (dealsFrom 2 (linesOf text))) (before₁ r)) (behind e)
           ∙ sym (accepted-results (book₁ r) (before₁ r) (accepted e)),
     )
 
@@ -108,6 +128,9 @@ answer-book-spec =
     reply-to-requires
     returns
     line-end-requires
+    slice-aggregate-read-heading
+    read-heading-requires
+    edition-requires
     sub-answer-deals
     part-answer-deals-start
     part-answer-deals-end

@@ -23,8 +23,8 @@ use Rattle.book.proofs.answer.answer_deals.Tie as tie
 abbrev toCome : List ℕ → ℕ → ℕ → List DealLines
 toCome lines at number = dealsFrom number (linesOf (drop at lines))
 
-record Holds (lines before results : List ℕ) (at number deals : ℕ) : Type 0 where
-  written : take (deals * 4) results ++ answersFrom (deals + 1) (toCome lines at number) ≡ answersFrom 1 (toCome lines 0 2)
+record Holds (edition : ℕ) (lines before results : List ℕ) (at number deals : ℕ) : Type 0 where
+  written : take (deals * 4) results ++ answersFrom edition (deals + 1) (toCome lines at number) ≡ answersFrom edition 1 (toCome lines 0 2)
   behind : drop (deals * 4) results ≡ drop (deals * 4) before
   inside : at ≤ length lines
   numbered : number ≤ at + 2
@@ -34,16 +34,16 @@ record Holds (lines before results : List ℕ) (at number deals : ℕ) : Type 0 
   room : (deals + length (toCome lines at number)) * 4 ≤ length before
 
 abbrev Inv-loop : tie.InvT-loop
-Inv-loop lines results₀ at₀ number₀ factors₀ deals₀ results at number factors deals = Holds lines results₀ results at number deals × BothTimeFactors factors
+Inv-loop edition lines results₀ at₀ number₀ factors₀ deals₀ results at number factors deals = Holds edition lines results₀ results at number deals × BothTimeFactors factors
 
 abbrev μ-loop : tie.MeasureT-loop
-μ-loop lines results₀ at₀ number₀ factors₀ deals₀ results at number factors deals = length lines - at
+μ-loop edition lines results₀ at₀ number₀ factors₀ deals₀ results at number factors deals = length lines - at
 
 -- one deal more
 module _
-    {lines before results : List ℕ} {at number deals : ℕ} (h : Holds lines before results at number deals) (k : at < length lines)
+    {edition : ℕ} {lines before results : List ℕ} {at number deals : ℕ} (h : Holds edition lines before results at number deals) (k : at < length lines)
     {end next : ℕ} (read : DealRead number (drop at lines) end next)
-    {refusal figure rwa : ℕ} (answered : dealAnswer (firstDeal number (drop at lines)) ≡ refusal ∷ figure ∷ rwa ∷ []) where
+    {refusal figure rwa : ℕ} (answered : dealAnswer edition (firstDeal number (drop at lines)) ≡ refusal ∷ figure ∷ rwa ∷ []) where
   abbrev rest : List ℕ
   rest = drop at lines
 
@@ -68,11 +68,11 @@ module _
   fits : deals * 4 + 4 ≤ length results
   fits = omega (arith, fewer, h .room, h .same)
 
-  after : answersFrom (deals + 1) (toCome lines at number) ≡ four ++ answersFrom (deals + 1 + 1) (toCome lines (at + end) next)
+  after : answersFrom edition (deals + 1) (toCome lines at number) ≡ four ++ answersFrom edition (deals + 1 + 1) (toCome lines (at + end) next)
   after =
-      ap (answersFrom (deals + 1)) one-less
-      ∙ answers-more (deals + 1) (firstDeal number rest) (toCome lines (at + end) next)
-      ∙ ap (λ xs. (deals + 1) ∷ (xs ++ answersFrom (deals + 1 + 1) (toCome lines (at + end) next))) answered
+      ap (answersFrom edition (deals + 1)) one-less
+      ∙ answers-more edition (deals + 1) (firstDeal number rest) (toCome lines (at + end) next)
+      ∙ ap (λ xs. (deals + 1) ∷ (xs ++ answersFrom edition (deals + 1 + 1) (toCome lines (at + end) next))) answered
 
   abbrev results′ : List ℕ
   results′ = paste results (deals * 4) four 4
@@ -83,7 +83,7 @@ module _
   placed : place ≡ deals * 4 + 4
   placed = omega arith
 
-  step : Holds lines before results′ (at + end) next (deals + 1)
+  step : Holds edition lines before results′ (at + end) next (deals + 1)
   step =
       let inner : deals * 4 ≤ length results = omega (arith, fits) in
       let four-long : 4 ≤ 4 = omega arith in
@@ -95,9 +95,9 @@ module _
         same = length-paste results (deals * 4) four 4 fits four-long ∙ h .same;
         room = omega (arith, fewer, h .room);
         written =
-            ap (λ n. take n results′ ++ answersFrom (deals + 1 + 1) (toCome lines (at + end) next)) placed
-            ∙ ap (λ xs. xs ++ answersFrom (deals + 1 + 1) (toCome lines (at + end) next)) (take-paste results (deals * 4) four 4 inner four-long)
-            ∙ append-assoc (take (deals * 4) results) four (answersFrom (deals + 1 + 1) (toCome lines (at + end) next))
+            ap (λ n. take n results′ ++ answersFrom edition (deals + 1 + 1) (toCome lines (at + end) next)) placed
+            ∙ ap (λ xs. xs ++ answersFrom edition (deals + 1 + 1) (toCome lines (at + end) next)) (take-paste results (deals * 4) four 4 inner four-long)
+            ∙ append-assoc (take (deals * 4) results) four (answersFrom edition (deals + 1 + 1) (toCome lines (at + end) next))
             ∙ ap (λ xs. take (deals * 4) results ++ xs) (sym after)
             ∙ h .written;
         behind =
@@ -117,9 +117,12 @@ module _ (c : tie.After-answer-deal Inv-loop μ-loop) where
   abbrev at₁ : ℕ
   at₁ = c .before .before .before .loop .at
 
-  answered₁ : dealAnswer (firstDeal (c .before .before .before .loop .number) (drop at₁ lines₁))
+  abbrev edition₁ : ℕ
+  edition₁ = c .before .before .before .before .before .before .args .edition
+
+  answered₁ : dealAnswer edition₁ (firstDeal (c .before .before .before .loop .number) (drop at₁ lines₁))
       ≡ c .answer-deal .result .answer .refusal ∷ c .answer-deal .result .answer .figure ∷ c .answer-deal .result .answer .rwa ∷ []
-  answered₁ = ap (λ t. dealAnswer (firstDeal (c .before .before .before .loop .number) t)) (sym (rest-part lines₁ at₁)) ∙ c .answer-deal .ensures .0 .1
+  answered₁ = ap (λ t. dealAnswer edition₁ (firstDeal (c .before .before .before .loop .number) t)) (sym (rest-part lines₁ at₁)) ∙ c .answer-deal .ensures .0 .1
 
   read₁ : DealRead (c .before .before .before .loop .number) (drop at₁ lines₁) (c .answer-deal .result .answer .end) (c .answer-deal .result .answer .next)
   read₁ = rw (rest-part lines₁ at₁) at (c .answer-deal .ensures .0 .0)
@@ -205,16 +208,17 @@ returns : tie.Need-returns Inv-loop μ-loop
 returns c =
     let l = c .before .loop in
     let s = c .before .before .before .before in
+    let edition = s .args .edition in
     let lines = s .args .lines .now in
     let before = s .args .results .now in
-    let none : answersFrom (l .deals + 1) (toCome lines (l .at) (l .number)) ≡ [] = rw (no-lines-at lines (l .at) (c .loop-test .left), no-deals, no-answers) in
-    let all : take (l .deals * 4) (l .results) ≡ answersFrom 1 (toCome lines 0 2) =
+    let none : answersFrom edition (l .deals + 1) (toCome lines (l .at) (l .number)) ≡ [] = rw (no-lines-at lines (l .at) (c .loop-test .left), no-deals, no-answers) in
+    let all : take (l .deals * 4) (l .results) ≡ answersFrom edition 1 (toCome lines 0 2) =
     sym (append-nil (take (l .deals * 4) (l .results))) ∙ ap (λ xs. take (l .deals * 4) (l .results) ++ xs) (sym none) ∙ l .inv .0 .written in
     let fits : l .deals * 4 ≤ length (l .results) = omega (arith, l .inv .0 .room, l .inv .0 .same) in
-    let count : l .deals * 4 ≡ length (answersFrom 1 (toCome lines 0 2)) = sym (length-take-le (l .deals * 4) (l .results) fits) ∙ ap length all in
+    let count : l .deals * 4 ≡ length (answersFrom edition 1 (toCome lines 0 2)) = sym (length-take-le (l .deals * 4) (l .results) fits) ∙ ap length all in
     sym (take-append-drop (l .deals * 4) (l .results))
     ∙ ap (λ xs. xs ++ drop (l .deals * 4) (l .results)) all
-    ∙ ap (λ xs. answersFrom 1 (toCome lines 0 2) ++ xs) (l .inv .0 .behind ∙ ap (λ n. drop n before) count)
+    ∙ ap (λ xs. answersFrom edition 1 (toCome lines 0 2) ++ xs) (l .inv .0 .behind ∙ ap (λ n. drop n before) count)
 
 pub answer-deals-spec : {M : Type 1} → statement M
 answer-deals-spec =

@@ -30,6 +30,9 @@ module _ (c : tie.After-line-end) where
   abbrev text : List ℕ
   text = c .before .before .args .text .now
 
+  abbrev edition : ℕ
+  edition = c .before .before .args .edition
+
   ends : c .line-end .result ≡ length (firstLine text)
   ends = omega (arith, c .line-end .ensures)
 
@@ -50,10 +53,10 @@ module _ (c : tie.After-opening-refusal) where
   abbrev line-ended : tie.After-line-end
   line-ended = c .before .before .before
 
-  read : c .before .read-line .result ≡ lineOf (firstLine (text line-ended))
-  read = c .before .read-line .ensures ∙ ap lineOf (ap (λ n. take n (text line-ended)) (ends line-ended) ∙ first-taken (text line-ended))
+  read : c .before .read-line .result ≡ lineOf (edition line-ended) (firstLine (text line-ended))
+  read = c .before .read-line .ensures ∙ ap (lineOf (edition line-ended)) (ap (λ n. take n (text line-ended)) (ends line-ended) ∙ first-taken (text line-ended))
 
-  refusal : c .opening-refusal .result ≡ openingRefusal (lineOf (firstLine (text line-ended)))
+  refusal : c .opening-refusal .result ≡ openingRefusal (lineOf (edition line-ended) (firstLine (text line-ended)))
   refusal = c .opening-refusal .ensures ∙ ap openingRefusal read
 
 refused-requires : tie.Need-refused-requires
@@ -70,7 +73,7 @@ returns c =
     let told = refusal o in (
       (
         deal-read (text e) (s .args .number) _ _ (s .pre .0 .0) (rw (ends e) at (r .1)),
-        unopened-answer (firstDeal (s .args .number) (text e)) (rw told at (ne-eqb _ _ (c .before .if1 .taken)))
+        unopened-answer (edition e) (firstDeal (s .args .number) (text e)) (rw told at (ne-eqb _ _ (c .before .if1 .taken)))
             ∙ sym (componentwise (r .0 .0 ∙ told) (r .0 .1 .0) (r .0 .1 .1)),
       ),
       s .pre .1,
@@ -80,7 +83,7 @@ opening-terms-requires : tie.Need-opening-terms-requires
 opening-terms-requires c κs = tt
 
 -- the terms on it
-said : (c : tie.After-opening-terms) → (c .opening-terms .result ≡ openingTerms (lineOf (firstLine (text (line-ended (c .before .before)))))) × (termsRefusal (c .opening-terms .result) ≡ 0)
+said : (c : tie.After-opening-terms) → (c .opening-terms .result ≡ openingTerms (lineOf (edition (line-ended (c .before .before))) (firstLine (text (line-ended (c .before .before)))))) × (termsRefusal (c .opening-terms .result) ≡ 0)
 said c =
     let o = c .before .before in
     let e = c .opening-terms .ensures ∙ ap openingTerms (read o) in
@@ -106,7 +109,7 @@ returns-2 c =
     let lines : ℕ → Terms → List ℕ = λ n terms. linesAnswer (s .args .number) (s .args .number + 1) (openedDeal terms) (ownLines (linesOf (drop n (text e)))) in (
       (
         deal-read (text e) (s .args .number) _ _ (s .pre .0 .0) (rw (ends e) at (c .opened .ensures .0)),
-        opened-answer (firstDeal (s .args .number) (text e)) (sym (refusal o) ∙ t .before .if1 .left)
+        opened-answer (edition e) (firstDeal (s .args .number) (text e)) (sym (refusal o) ∙ t .before .if1 .left)
             ∙ ap (lines (length (firstLine (text e)))) (sym (said t .0))
             ∙ ap (λ n. lines n (t .opening-terms .result)) (sym (ends e))
             ∙ c .opened .ensures .1,

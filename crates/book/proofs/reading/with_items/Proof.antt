@@ -105,10 +105,10 @@ module _ (c : tie.At-match-came Inv-loop μ-loop) where
   abbrev at : ℕ
   at = looped .loop .at
 
-  read : c .before .read-line .result ≡ lineOf (firstLine (drop at text))
-  read = c .before .read-line .ensures ∙ ap lineOf (ap (λ n. take (n - at) (drop at text)) (line-ended .line-end .ensures) ∙ line-part text at)
+  read : c .before .read-line .result ≡ lineOf (start-of looped .args .terms .edition) (firstLine (drop at text))
+  read = c .before .read-line .ensures ∙ ap (lineOf (start-of looped .args .terms .edition)) (ap (λ n. take (n - at) (drop at text)) (line-ended .line-end .ensures) ∙ line-part text at)
 
-  done : LineDone (start-of looped .args .terms) (looped .loop .collateral) (looped .loop .guarantees) (lineOf (firstLine (drop at text))) (c .match .refusal) (c .match .collateral) (c .match .guarantees)
+  done : LineDone (start-of looped .args .terms) (looped .loop .collateral) (looped .loop .guarantees) (lineOf (start-of looped .args .terms .edition) (firstLine (drop at text))) (c .match .refusal) (c .match .collateral) (c .match .guarantees)
   done =
       let t = start-of looped .args .terms in
       let cs = looped .loop .collateral in

@@ -9,7 +9,7 @@ use Rattle.hadlephoga.proofs.adding.put_reply.Statement.{statement}
 use Rattle.hadlephoga.proofs.adding.put_reply.Tie as tie
 
 has-places : (s : tie.Start) → HasPlaces (s .args .reply .deal)
-has-places s = record { pledged = search (unmapped, s .good); guaranteed = search (unmapped, s .good) }
+has-places s = record { pledged = search (unmapped, s .good .1 .0); guaranteed = search (unmapped, s .good .1 .0) }
 
 number-requires : tie.Need-number-requires
 number-requires c κs = tt

@@ -5,9 +5,12 @@ use lib.ListN.{length}
 use borrow.Author.Tests.{not-true, not-false}
 use Rattle.base.proofs.Choice.{if-true, if-false}
 use Rattle.base.proofs.Tests.{tests}
+use Rattle.deal.specs.Fields.{termsUnder}
 use Rattle.lines.specs.Fields.{mostFields}
 use Rattle.lines.specs.Lines.{dealLine, ifHeld}
+use Rattle.lines.specs.Sovereign.{withSovereign}
 use Rattle.lines.specs.declared.line.Line.the-variants.{DealLine}
+use Rattle.lines.proofs.LineLaws.{whole-terms}
 use Rattle.lines.proofs.line.deal_line.Statement.{statement}
 use Rattle.lines.proofs.line.deal_line.Tie as tie
 
@@ -15,17 +18,23 @@ returns : tie.Need-returns
 unfolding ifHeld
 returns c = sym (if-false _ _ _ (not-true _ (c .if1 .taken)))
 
-slice-aggregate-terms-in : tie.Need-slice-aggregate-terms-in
-slice-aggregate-terms-in c = search tests
+with-sovereign-requires : tie.Need-with-sovereign-requires
+with-sovereign-requires c κs = tt
 
-terms-in-requires : tie.Need-terms-in-requires
-terms-in-requires c κs =
-    let e : length (c .before .before .before .before .args .fields .values) ≡ mostFields = search tests in
+slice-aggregate-terms-under : tie.Need-slice-aggregate-terms-under
+slice-aggregate-terms-under c = search tests
+
+terms-under-requires : tie.Need-terms-under-requires
+terms-under-requires c κs =
+    let e : length (c .before .with-sovereign .result) ≡ mostFields = search tests in
     omega (arith, e)
 
 returns-2 : tie.Need-returns-2
 unfolding ifHeld dealLine
-returns-2 c = ap DealLine (c .terms-in .ensures) ∙ sym (if-true _ _ _ (not-false _ (c .before .before .before .if1 .left)))
+returns-2 c =
+    let w = c .before .before in
+    let s = w .before .before .before .before in
+    ap DealLine (c .terms-under .ensures ∙ ap (λ fields. termsUnder (s .args .edition) fields) (w .with-sovereign .ensures) ∙ whole-terms (withSovereign (s .args .edition) (s .args .fields .values)) _) ∙ sym (if-true _ _ _ (not-false _ (w .before .before .if1 .left)))
 
 pub deal-line-spec : {M : Type 1} → statement M
-deal-line-spec = tie.close (tie.spec returns slice-aggregate-terms-in terms-in-requires returns-2)
+deal-line-spec = tie.close (tie.spec returns with-sovereign-requires slice-aggregate-terms-under terms-under-requires returns-2)

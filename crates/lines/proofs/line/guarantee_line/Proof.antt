@@ -5,9 +5,12 @@ use lib.ListN.{length}
 use borrow.Author.Tests.{not-true, not-false}
 use Rattle.base.proofs.Choice.{if-true, if-false}
 use Rattle.base.proofs.Tests.{tests}
+use Rattle.deal.specs.Fields.{guaranteeIn}
 use Rattle.lines.specs.Fields.{mostFields}
 use Rattle.lines.specs.Lines.{guaranteeLine, ifHeld}
+use Rattle.lines.specs.Sovereign.{withSovereign}
 use Rattle.lines.specs.declared.line.Line.the-variants.{GuaranteeLine}
+use Rattle.lines.proofs.LineLaws.{whole-guarantee}
 use Rattle.lines.proofs.line.guarantee_line.Statement.{statement}
 use Rattle.lines.proofs.line.guarantee_line.Tie as tie
 
@@ -15,17 +18,23 @@ returns : tie.Need-returns
 unfolding ifHeld
 returns c = sym (if-false _ _ _ (not-true _ (c .if1 .taken)))
 
+with-sovereign-requires : tie.Need-with-sovereign-requires
+with-sovereign-requires c κs = tt
+
 slice-aggregate-guarantee-in : tie.Need-slice-aggregate-guarantee-in
 slice-aggregate-guarantee-in c = search tests
 
 guarantee-in-requires : tie.Need-guarantee-in-requires
 guarantee-in-requires c κs =
-    let e : length (c .before .before .before .before .args .fields .values) ≡ mostFields = search tests in
+    let e : length (c .before .with-sovereign .result) ≡ mostFields = search tests in
     omega (arith, e)
 
 returns-2 : tie.Need-returns-2
 unfolding ifHeld guaranteeLine
-returns-2 c = ap GuaranteeLine (c .guarantee-in .ensures) ∙ sym (if-true _ _ _ (not-false _ (c .before .before .before .if1 .left)))
+returns-2 c =
+    let w = c .before .before in
+    let s = w .before .before .before .before in
+    ap GuaranteeLine (c .guarantee-in .ensures ∙ ap (λ fields. guaranteeIn fields) (w .with-sovereign .ensures) ∙ whole-guarantee (withSovereign (s .args .edition) (s .args .fields .values))) ∙ sym (if-true _ _ _ (not-false _ (w .before .before .if1 .left)))
 
 pub guarantee-line-spec : {M : Type 1} → statement M
-guarantee-line-spec = tie.close (tie.spec returns slice-aggregate-guarantee-in guarantee-in-requires returns-2)
+guarantee-line-spec = tie.close (tie.spec returns with-sovereign-requires slice-aggregate-guarantee-in guarantee-in-requires returns-2)

@@ -7,44 +7,50 @@ use borrow.Author.Tests.{ne-eqb}
 use lib.ListN.{length, drop, getD}
 use Rattle.base.specs.Choice.{if_then_else_}
 use Rattle.lines.specs.Fields.{fieldsOf}
+use Rattle.lines.specs.Sovereign.{widthUnder}
 use Rattle.lines.specs.Lines.{dealLine, collateralLine, guaranteeLine, ifRead, lineOf}
 use Rattle.lines.specs.declared.line.Line.the-variants.{Malformed}
 use Rattle.text.proofs.Lines.{rest-part}
 use Rattle.lines.proofs.LineLaws.{deal-held, collateral-held, guarantee-held}
+use Rattle.lines.proofs.SovereignLaws.{width-le}
 use Rattle.lines.proofs.line.read_line.Statement.{statement}
 use Rattle.lines.proofs.line.read_line.Tie as tie
 
-empty : (line : List ℕ) → length line ≡ 0 → lineOf line ≡ Malformed
-unfolding lineOf
-empty [] h = refl
-empty (b ∷ bs) h = absurd (omega arith)
+module _ (edition : ℕ) where
+  empty : (line : List ℕ) → length line ≡ 0 → lineOf edition line ≡ Malformed
+  unfolding lineOf
+  empty [] h = refl
+  empty (b ∷ bs) h = absurd (omega arith)
 
--- by the letter
-deal : (line : List ℕ) → 0 < length line → getD line 0 0 ≡ 68 → lineOf line ≡ ifRead dealLine (fieldsOf 10 (drop 1 line))
-unfolding lineOf if_then_else_
-deal [] h e = absurd (omega arith)
-deal (b ∷ bs) h e = rw e
+  -- by the letter
+  deal : (line : List ℕ) → 0 < length line → getD line 0 0 ≡ 68 → lineOf edition line ≡ ifRead (dealLine edition) (fieldsOf (widthUnder edition 11) (drop 1 line))
+  unfolding lineOf if_then_else_
+  deal [] h e = absurd (omega arith)
+  deal (b ∷ bs) h e = rw e
 
-collateral : (line : List ℕ) → 0 < length line → getD line 0 0 ≡ 67 → lineOf line ≡ ifRead collateralLine (fieldsOf 11 (drop 1 line))
-unfolding lineOf if_then_else_
-collateral [] h e = absurd (omega arith)
-collateral (b ∷ bs) h e = rw e
+  collateral : (line : List ℕ) → 0 < length line → getD line 0 0 ≡ 67 → lineOf edition line ≡ ifRead collateralLine (fieldsOf 11 (drop 1 line))
+  unfolding lineOf if_then_else_
+  collateral [] h e = absurd (omega arith)
+  collateral (b ∷ bs) h e = rw e
 
-guarantee : (line : List ℕ) → 0 < length line → getD line 0 0 ≡ 71 → lineOf line ≡ ifRead guaranteeLine (fieldsOf 9 (drop 1 line))
-unfolding lineOf if_then_else_
-guarantee [] h e = absurd (omega arith)
-guarantee (b ∷ bs) h e = rw e
+  guarantee : (line : List ℕ) → 0 < length line → getD line 0 0 ≡ 71 → lineOf edition line ≡ ifRead (guaranteeLine edition) (fieldsOf (widthUnder edition 10) (drop 1 line))
+  unfolding lineOf if_then_else_
+  guarantee [] h e = absurd (omega arith)
+  guarantee (b ∷ bs) h e = rw e
 
-other : (line : List ℕ) → (getD line 0 0 ≡ 68 → ⊥) → (getD line 0 0 ≡ 67 → ⊥) → (getD line 0 0 ≡ 71 → ⊥) → lineOf line ≡ Malformed
-unfolding lineOf if_then_else_
-other [] d c g = refl
-other (b ∷ bs) d c g = simp (ne-eqb b 68 d, ne-eqb b 67 c, ne-eqb b 71 g)
+  other : (line : List ℕ) → (getD line 0 0 ≡ 68 → ⊥) → (getD line 0 0 ≡ 67 → ⊥) → (getD line 0 0 ≡ 71 → ⊥) → lineOf edition line ≡ Malformed
+  unfolding lineOf if_then_else_
+  other [] d c g = refl
+  other (b ∷ bs) d c g = simp (ne-eqb b 68 d, ne-eqb b 67 c, ne-eqb b 71 g)
 
 returns : tie.Need-returns
-returns c = sym (empty _ (omega (arith, c .if1 .taken)))
+returns c = sym (empty _ _ (omega (arith, c .if1 .taken)))
 
 shared-slice-read-letter : tie.Need-shared-slice-read-letter
 shared-slice-read-letter c = omega arith
+
+width-under-requires : tie.Need-width-under-requires
+width-under-requires c κs = omega arith
 
 sub-read-fields : tie.Need-sub-read-fields
 sub-read-fields c = omega arith
@@ -56,7 +62,7 @@ part-read-fields-end : tie.Need-part-read-fields-end
 part-read-fields-end c = omega arith
 
 read-fields-requires : tie.Need-read-fields-requires
-read-fields-requires c κs = omega arith
+read-fields-requires c κs = omega (arith, c .before .width-under .ensures, width-le (c .before .before .before .before .before .before .args .edition) 11)
 
 deal-line-requires : tie.Need-deal-line-requires
 deal-line-requires c κs = tt
@@ -76,6 +82,9 @@ read-fields-requires-2 c κs = omega arith
 collateral-line-requires : tie.Need-collateral-line-requires
 collateral-line-requires c κs = tt
 
+width-under-requires-2 : tie.Need-width-under-requires-2
+width-under-requires-2 c κs = omega arith
+
 sub-read-fields-3 : tie.Need-sub-read-fields-3
 sub-read-fields-3 c = omega arith
 
@@ -86,33 +95,33 @@ part-read-fields-end-3 : tie.Need-part-read-fields-end-3
 part-read-fields-end-3 c = omega arith
 
 read-fields-requires-3 : tie.Need-read-fields-requires-3
-read-fields-requires-3 c κs = omega arith
+read-fields-requires-3 c κs = omega (arith, c .before .width-under2 .ensures, width-le (c .before .before .before .before .before .before .args .edition) 10)
 
 guarantee-line-requires : tie.Need-guarantee-line-requires
 guarantee-line-requires c κs = tt
 
 returns-2 : tie.Need-returns-2
 returns-2 c =
-    let m = c .before .before .before in
+    let w = c .before .before .before in
     let e = rw rest-part at (c .before .read-fields .ensures) in
-    rw (c .deal-line .ensures, e, deal-held) (sym (deal _ (omega arith) (omega (arith, m .match .keys1))))
+    rw (c .deal-line .ensures, e, w .width-under .ensures, deal-held) (sym (deal _ _ (omega arith) (omega (arith, w .before .match .keys1))))
 
 returns-3 : tie.Need-returns-3
 returns-3 c =
     let m = c .before .before .before in
     let e = rw rest-part at (c .before .read-fields2 .ensures) in
-    rw (c .collateral-line .ensures, e, collateral-held) (sym (collateral _ (omega arith) (omega (arith, m .match .keys2))))
+    rw (c .collateral-line .ensures, e, collateral-held) (sym (collateral _ _ (omega arith) (omega (arith, m .match .keys2))))
 
 returns-4 : tie.Need-returns-4
 returns-4 c =
-    let m = c .before .before .before in
+    let w = c .before .before .before in
     let e = rw rest-part at (c .before .read-fields3 .ensures) in
-    rw (c .guarantee-line .ensures, e, guarantee-held) (sym (guarantee _ (omega arith) (omega (arith, m .match .keys3))))
+    rw (c .guarantee-line .ensures, e, w .width-under2 .ensures, guarantee-held) (sym (guarantee _ _ (omega arith) (omega (arith, w .before .match .keys3))))
 
 returns-5 : tie.Need-returns-5
 returns-5 c =
     let r = c .match .rest in
-    sym (other _ (r .0 .0 .1) (r .0 .1) (r .1))
+    sym (other _ _ (r .0 .0 .1) (r .0 .1) (r .1))
 
 pub read-line-spec : {M : Type 1} → statement M
 read-line-spec =
@@ -120,6 +129,7 @@ read-line-spec =
     (tie.spec
     returns
     shared-slice-read-letter
+    width-under-requires
     sub-read-fields
     part-read-fields-start
     part-read-fields-end
@@ -130,6 +140,7 @@ read-line-spec =
     part-read-fields-end-2
     read-fields-requires-2
     collateral-line-requires
+    width-under-requires-2
     sub-read-fields-3
     part-read-fields-start-3
     part-read-fields-end-3

@@ -10,7 +10,7 @@ plain : (c : tie.Start) → PlainGuarantee (c .args .item)
 plain c = plain-guarantee (c .args .item) (c .pre .0 .0)
 
 provider-weight-requires : tie.Need-provider-weight-requires
-provider-weight-requires c κs = let p = plain (c .before) in (p .class .0, (p .class .1, p .step))
+provider-weight-requires c κs = let p = plain (c .before) in (p .class .0, (p .class .1, (p .step, p .«sovereign_step»)))
 
 scaled-currency-haircut-requires : tie.Need-scaled-currency-haircut-requires
 scaled-currency-haircut-requires c κs = c .before .before .pre .1 .1

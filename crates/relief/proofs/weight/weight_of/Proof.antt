@@ -5,7 +5,7 @@ use Rattle.relief.proofs.weight.weight_of.Statement.{statement}
 use Rattle.relief.proofs.weight.weight_of.Tie as tie
 
 counterparty-weight-requires : tie.Need-counterparty-weight-requires
-counterparty-weight-requires c κs = let p = plain-terms _ (c .before .pre) in (p .class .0, (p .class .1, p .step))
+counterparty-weight-requires c κs = let p = plain-terms _ (c .before .pre) in (p .class .0, (p .class .1, (p .step, p .«sovereign_step»)))
 
 returns : tie.Need-returns
 unfolding tableFor

@@ -10,13 +10,6 @@ use Rattle.deal.proofs.Deals.{collateral-list-refused, collateral-list-
 use Rattle.deal.proofs.collateral.CollateralList.add.Statement.{statement}
 use Rattle.deal.proofs.collateral.CollateralList.add.Tie as tie
 
-returns : tie.Need-returns
-unfolding collateralListRefusal collateralListTests answerNumber
-returns c =
-    let a = c .before .args in
-    let e : collateralListRefusal (a .t1) (a .item) ≡ 6 = full-first collateralTests _ _ (c .if1 .taken) in
-    (sym (collateral-list-refused _ _ (rw e refl)), sym e)
-
 check-requires : tie.Need-check-requires
 check-requires c κs = tt
 
@@ -24,9 +17,9 @@ is-accepted-requires : tie.Need-is-accepted-requires
 is-accepted-requires c κs = tt
 
 -- the list is not full, so the item's own fields decide
-past-6 : (c : tie.Else1) → let a = c .before .args in collateralListRefusal (a .t1) (a .item) ≡ collateralRefusal (a .item)
+past-6 : (c : tie.Then1) → let a = c .before .args in collateralListRefusal (a .t1) (a .item) ≡ collateralRefusal (a .item)
 unfolding collateralListRefusal collateralListTests collateralRefusal
-past-6 c = own-tests collateralTests _ _ (c .if1 .left)
+past-6 c = own-tests collateralTests _ _ (c .if1 .taken)
 
 mul-item : tie.Need-mul-item
 mul-item c = search tests
@@ -37,29 +30,37 @@ element-set-from-item c = search tests
 add-self : tie.Need-add-self
 add-self c = search tests
 
-returns-2 : tie.Need-returns-2
-returns-2 c =
+returns : tie.Need-returns
+returns c =
     let a = c .before in
     let e = past-6 (a .before .before) in
     let z = eqb-true _ 0 (told-true _ _ (agreed (a .is-accepted .ensures) (a .before .check .ensures)) (c .if2 .taken)) in
     (sym (collateral-list-added _ _ (e ∙ z)), a .before .check .ensures ∙ sym e)
 
-returns-3 : tie.Need-returns-3
-returns-3 c =
+returns-2 : tie.Need-returns-2
+returns-2 c =
     let a = c .before in
     let e = past-6 (a .before .before) in
     let z = told-false _ _ (agreed (a .is-accepted .ensures) (a .before .check .ensures)) (c .if2 .left) in
     (sym (collateral-list-refused _ _ (rw e z)), a .before .check .ensures ∙ sym e)
 
+-- the list is full
+returns-3 : tie.Need-returns-3
+unfolding collateralListRefusal collateralListTests answerNumber
+returns-3 c =
+    let a = c .before .args in
+    let e : collateralListRefusal (a .t1) (a .item) ≡ 6 = full-first collateralTests _ _ (c .if1 .left) in
+    (sym (collateral-list-refused _ _ (rw e refl)), sym e)
+
 pub add-spec : {M : Type 1} → statement M
 add-spec =
     tie.close
     (tie.spec
-    returns
     check-requires
     is-accepted-requires
     mul-item
     element-set-from-item
     add-self
+    returns
     returns-2
     returns-3)

@@ -28,8 +28,8 @@ amount-allowed-requires c κs = tt
 provider-known-requires : tie.Need-provider-known-requires
 provider-known-requires c κs = tt
 
-step-allowed-requires : tie.Need-step-allowed-requires
-step-allowed-requires c κs = tt
+steps-allowed-requires : tie.Need-steps-allowed-requires
+steps-allowed-requires c κs = tt
 
 currency-allowed-requires : tie.Need-currency-allowed-requires
 currency-allowed-requires c κs = tt
@@ -45,7 +45,7 @@ returns c =
     ∙ same-checks {f = leb (x .residual) (x .original)}
     (c .before .before .before .before .before .amount-allowed .ensures)
     (c .before .before .before .before .provider-known .ensures)
-    (c .before .before .before .step-allowed .ensures)
+    (c .before .before .before .steps-allowed .ensures)
     (c .before .before .currency-allowed .ensures)
     (and-same _ _ _ _ (c .before .before .before .before .before .before .before .before .before .before .days-allowed .ensures) (c .before .before .before .before .before .before .before .before .before .days-allowed2 .ensures))
     refl
@@ -62,7 +62,7 @@ check-spec =
     condition-allowed-requires-3
     amount-allowed-requires
     provider-known-requires
-    step-allowed-requires
+    steps-allowed-requires
     currency-allowed-requires
     answer-requires
     returns)

@@ -10,13 +10,6 @@ use Rattle.deal.proofs.Deals.{guarantee-list-refused, guarantee-list-ad
 use Rattle.deal.proofs.guarantee.GuaranteeList.add.Statement.{statement}
 use Rattle.deal.proofs.guarantee.GuaranteeList.add.Tie as tie
 
-returns : tie.Need-returns
-unfolding guaranteeListRefusal guaranteeListTests answerNumber
-returns c =
-    let a = c .before .args in
-    let e : guaranteeListRefusal (a .t1) (a .item) ≡ 6 = full-first guaranteeTests _ _ (c .if1 .taken) in
-    (sym (guarantee-list-refused _ _ (rw e refl)), sym e)
-
 check-requires : tie.Need-check-requires
 check-requires c κs = tt
 
@@ -24,9 +17,9 @@ is-accepted-requires : tie.Need-is-accepted-requires
 is-accepted-requires c κs = tt
 
 -- the list is not full, so the item's own fields decide
-past-6 : (c : tie.Else1) → let a = c .before .args in guaranteeListRefusal (a .t1) (a .item) ≡ guaranteeRefusal (a .item)
+past-6 : (c : tie.Then1) → let a = c .before .args in guaranteeListRefusal (a .t1) (a .item) ≡ guaranteeRefusal (a .item)
 unfolding guaranteeListRefusal guaranteeListTests guaranteeRefusal
-past-6 c = own-tests guaranteeTests _ _ (c .if1 .left)
+past-6 c = own-tests guaranteeTests _ _ (c .if1 .taken)
 
 mul-item : tie.Need-mul-item
 mul-item c = search tests
@@ -37,29 +30,37 @@ element-set-from-item c = search tests
 add-self : tie.Need-add-self
 add-self c = search tests
 
-returns-2 : tie.Need-returns-2
-returns-2 c =
+returns : tie.Need-returns
+returns c =
     let a = c .before in
     let e = past-6 (a .before .before) in
     let z = eqb-true _ 0 (told-true _ _ (agreed (a .is-accepted .ensures) (a .before .check .ensures)) (c .if2 .taken)) in
     (sym (guarantee-list-added _ _ (e ∙ z)), a .before .check .ensures ∙ sym e)
 
-returns-3 : tie.Need-returns-3
-returns-3 c =
+returns-2 : tie.Need-returns-2
+returns-2 c =
     let a = c .before in
     let e = past-6 (a .before .before) in
     let z = told-false _ _ (agreed (a .is-accepted .ensures) (a .before .check .ensures)) (c .if2 .left) in
     (sym (guarantee-list-refused _ _ (rw e z)), a .before .check .ensures ∙ sym e)
 
+-- the list is full
+returns-3 : tie.Need-returns-3
+unfolding guaranteeListRefusal guaranteeListTests answerNumber
+returns-3 c =
+    let a = c .before .args in
+    let e : guaranteeListRefusal (a .t1) (a .item) ≡ 6 = full-first guaranteeTests _ _ (c .if1 .left) in
+    (sym (guarantee-list-refused _ _ (rw e refl)), sym e)
+
 pub add-spec : {M : Type 1} → statement M
 add-spec =
     tie.close
     (tie.spec
-    returns
     check-requires
     is-accepted-requires
     mul-item
     element-set-from-item
     add-self
+    returns
     returns-2
     returns-3)

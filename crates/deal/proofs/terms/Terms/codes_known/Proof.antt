@@ -12,10 +12,13 @@ kind-known-requires c κs = tt
 goods-known-requires : tie.Need-goods-known-requires
 goods-known-requires c κs = tt
 
+edition-known-requires : tie.Need-edition-known-requires
+edition-known-requires c κs = tt
+
 returns : tie.Need-returns
 returns c = search and-same
 
 pub codes-known-spec : {M : Type 1} → statement M
 codes-known-spec =
     tie.close
-    (tie.spec counterparty-known-requires kind-known-requires goods-known-requires returns)
+    (tie.spec counterparty-known-requires kind-known-requires goods-known-requires edition-known-requires returns)
