@@ -21,7 +21,7 @@ use Rattle.deal.specs.Editions.{tableFor}
 use Rattle.deal.specs.Fields.{collateralIn, guaranteeIn, termsIn}
 use Rattle.deal.specs.Guarantees.{appendGuarantee, guaranteeListAllowed, guaranteeListRefusal, guaranteeListTests, guaranteeRefusal, guaranteeTests}
 use Rattle.deal.specs.Records.{accepted, dealOf, dealWith, recordAllowed}
-use Rattle.deal.specs.Parties.{partyStepAllowed}
+use Rattle.deal.specs.Parties.{partyStepAllowed, partyStepsAllowed, sovereignStepAllowed}
 use Rattle.deal.specs.Ranges.{daysLimit}
 use Rattle.deal.specs.Terms.{termsChecks, termsRefusal, termsTests}
 use Rattle.deal.specs.declared.terms.Terms.{Terms}
@@ -59,20 +59,20 @@ no-other = refl
 
 -- and each number that is listed is given: by opening
 opening-each : map (λ fields. termsRefusal (termsIn fields)) (
-    (0 ∷ 1 ∷ 0 ∷ 1 ∷ 1 ∷ 1 ∷ 1 ∷ 1 ∷ [])
+    (0 ∷ 1 ∷ 0 ∷ 0 ∷ 1 ∷ 1 ∷ 1 ∷ 1 ∷ 1 ∷ 0 ∷ 0 ∷ 1 ∷ [])
     ∷ (1000000000001 ∷ [])
     ∷ []
-    ∷ (0 ∷ 1 ∷ 7 ∷ 0 ∷ 1 ∷ 0 ∷ 0 ∷ 1 ∷ [])
-    ∷ (0 ∷ 1 ∷ 0 ∷ 0 ∷ 1 ∷ 0 ∷ 0 ∷ 1 ∷ [])
-    ∷ (0 ∷ 1 ∷ 0 ∷ 1 ∷ 1 ∷ 0 ∷ 0 ∷ 1 ∷ [])
+    ∷ (0 ∷ 1 ∷ 7 ∷ 0 ∷ 0 ∷ 1 ∷ 0 ∷ 0 ∷ 1 ∷ 0 ∷ 0 ∷ 2 ∷ [])
+    ∷ (0 ∷ 1 ∷ 0 ∷ 0 ∷ 0 ∷ 1 ∷ 0 ∷ 0 ∷ 1 ∷ 0 ∷ 0 ∷ 2 ∷ [])
+    ∷ (0 ∷ 1 ∷ 0 ∷ 0 ∷ 1 ∷ 1 ∷ 0 ∷ 0 ∷ 1 ∷ 0 ∷ 0 ∷ 2 ∷ [])
     ∷ []
     ) ≡ of-opening
-unfolding termsRefusal termsTests firstOr within partyStepAllowed assetStepAllowed lifeAllowed if_then_else_
+unfolding termsRefusal termsTests firstOr within partyStepAllowed sovereignStepAllowed partyStepsAllowed assetStepAllowed lifeAllowed if_then_else_
 opening-each = refl
 
 -- by adding
 abbrev sound : List ℕ
-sound = 0 ∷ 1 ∷ 0 ∷ 1 ∷ 1 ∷ 1 ∷ 1 ∷ 1 ∷ []
+sound = 0 ∷ 1 ∷ 0 ∷ 0 ∷ 1 ∷ 1 ∷ 1 ∷ 1 ∷ 1 ∷ 0 ∷ 0 ∷ 1 ∷ []
 
 adding-each :
     (let cash : Collateral = collateralIn (0 ∷ 1 ∷ 0 ∷ 0 ∷ 1 ∷ 1 ∷ 1 ∷ []) in
@@ -90,13 +90,13 @@ adding-each :
     ∷ (0 ∷ 1 ∷ 0 ∷ 0 ∷ 1 ∷ 1 ∷ 1 ∷ 2 ∷ [])
     ∷ []
     ) ≡ of-adding)
-unfolding addCollateralRefusal addCollateralTests recordAllowed collateralListTests collateralListAllowed guaranteeListAllowed termsRefusal termsTests collateralRefusal collateralTests guaranteeRefusal guaranteeTests firstOr within partyStepAllowed assetStepAllowed lifeAllowed if_then_else_
+unfolding addCollateralRefusal addCollateralTests recordAllowed collateralListTests collateralListAllowed guaranteeListAllowed termsRefusal termsTests collateralRefusal collateralTests guaranteeRefusal guaranteeTests firstOr within partyStepAllowed sovereignStepAllowed partyStepsAllowed assetStepAllowed lifeAllowed if_then_else_
 adding-each = refl
 
 guarantees-each :
-    (let backing : Guarantee = guaranteeIn (0 ∷ 1 ∷ 0 ∷ 1 ∷ 1 ∷ 1 ∷ []) in
+    (let backing : Guarantee = guaranteeIn (0 ∷ 1 ∷ 0 ∷ 0 ∷ 1 ∷ 1 ∷ 1 ∷ []) in
     let added : List ℕ → ℕ = λ fields. addGuaranteeRefusal (dealWith (termsIn sound) [] []) (guaranteeIn fields) in
-    added (0 ∷ 1 ∷ 0 ∷ 1 ∷ 1 ∷ 1 ∷ [])
+    added (0 ∷ 1 ∷ 0 ∷ 0 ∷ 1 ∷ 1 ∷ 1 ∷ [])
     ∷ addGuaranteeRefusal (dealWith (termsIn []) [] []) backing
     ∷ addGuaranteeRefusal (dealWith (termsIn sound) [] (replicate 16 backing)) backing
     ∷ map added (
@@ -104,17 +104,17 @@ guarantees-each :
     ∷ []
     ∷ (0 ∷ 1 ∷ 7 ∷ [])
     ∷ (0 ∷ 1 ∷ [])
-    ∷ (0 ∷ 1 ∷ 0 ∷ 1 ∷ [])
-    ∷ (0 ∷ 1 ∷ 0 ∷ 1 ∷ 2 ∷ 1 ∷ [])
-    ∷ (0 ∷ 1 ∷ 0 ∷ 1 ∷ 1 ∷ 1 ∷ 2 ∷ [])
+    ∷ (0 ∷ 1 ∷ 0 ∷ 0 ∷ 1 ∷ [])
+    ∷ (0 ∷ 1 ∷ 0 ∷ 0 ∷ 1 ∷ 2 ∷ 1 ∷ [])
+    ∷ (0 ∷ 1 ∷ 0 ∷ 0 ∷ 1 ∷ 1 ∷ 1 ∷ 2 ∷ [])
     ∷ []
     ) ≡ of-adding)
-unfolding addGuaranteeRefusal addGuaranteeTests recordAllowed guaranteeListTests collateralListAllowed guaranteeListAllowed termsRefusal termsTests collateralRefusal collateralTests guaranteeRefusal guaranteeTests firstOr within partyStepAllowed assetStepAllowed lifeAllowed if_then_else_
+unfolding addGuaranteeRefusal addGuaranteeTests recordAllowed guaranteeListTests collateralListAllowed guaranteeListAllowed termsRefusal termsTests collateralRefusal collateralTests guaranteeRefusal guaranteeTests firstOr within partyStepAllowed sovereignStepAllowed partyStepsAllowed assetStepAllowed lifeAllowed if_then_else_
 guarantees-each = refl
 
 -- by reporting
 reporting-each : reportRefusal (dealWith (termsIn sound) [] []) ∷ reportRefusal (dealWith (termsIn []) [] []) ∷ [] ≡ of-reporting
-unfolding reportRefusal accepted recordAllowed collateralListAllowed guaranteeListAllowed termsRefusal termsTests firstOr within partyStepAllowed assetStepAllowed lifeAllowed if_then_else_
+unfolding reportRefusal accepted recordAllowed collateralListAllowed guaranteeListAllowed termsRefusal termsTests firstOr within partyStepAllowed sovereignStepAllowed partyStepsAllowed assetStepAllowed lifeAllowed if_then_else_
 reporting-each = refl
 
 opening-numbers : (t : Terms) → Among of-opening (termsRefusal t)
@@ -169,14 +169,14 @@ lines-numbers : (opening number : ℕ) (d : Deal) (lines : List (List ℕ)) → 
 unfolding linesAnswer refusedAt
 lines-numbers opening number d [] h = ap (λ l. isAmong (0 ∷ lineRefusals) (getD l 0 0)) (no-more-lines opening number d (allowed-accepted d h))
 lines-numbers opening number d (line ∷ lines) h =
-    either (λ l. Among (0 ∷ lineRefusals) (getD l 0 0)) (eqb (lineRefusal d (lineOf line)) 0)
-    (λ e. lines-numbers opening (number + 1) (withLine d (lineOf line)) lines (line-allowed d (lineOf line) h))
-    (λ e. line-numbers d (lineOf line) h)
+    either (λ l. Among (0 ∷ lineRefusals) (getD l 0 0)) (eqb (lineRefusal d (lineOf (d .terms .edition) line)) 0)
+    (λ e. lines-numbers opening (number + 1) (withLine d (lineOf (d .terms .edition) line)) lines (line-allowed d (lineOf (d .terms .edition) line) h))
+    (λ e. line-numbers d (lineOf (d .terms .edition) line) h)
 
-deal-numbers : (deal : DealLines) → Among (0 ∷ lineRefusals) (getD (dealAnswer deal) 0 0)
+deal-numbers : (edition : ℕ) (deal : DealLines) → Among (0 ∷ lineRefusals) (getD (dealAnswer edition deal) 0 0)
 unfolding dealAnswer refusedAt
-deal-numbers deal =
-    let line = lineOf (deal .opening) in
+deal-numbers edition deal =
+    let line = lineOf edition (deal .opening) in
     either (λ l. Among (0 ∷ lineRefusals) (getD l 0 0)) (eqb (openingRefusal line) 0)
     (λ e. lines-numbers (deal .number) (deal .number + 1) (openedBy line) (deal .further) (opening-allowed line e))
     (λ e. opening-line line)

@@ -7,7 +7,7 @@
 --   reporting a deal   `relief::report::Report::of`                         reportRefusal, reportOf
 --   answering a book   `book::answer::answer_book`                          bookReply, resultsAfter
 -- What follows is proved of those definitions, for every input whatever. Calls on numbers (crate hadlephoga) go through the same operations:
--- their contracts add 13 and 11 for lists of another length, and determine every number of every list.
+-- their contracts add 13 and 11 for lists of another length, and 40 for numbers that are no record, and determine every number of every list.
 use Prim.Native.Nat.{ℕ}
 use mathlib.Core.Path.{_≡_}
 use mathlib.Core.Bool.{Bool, true, false, _||_}
@@ -29,7 +29,7 @@ use Rattle.deal.specs.declared.guarantee.Guarantee.{Guarantee}
 use Rattle.deal.specs.declared.deal.Deal.{Deal}
 use Rattle.relief.specs.Report.{refusedReport, reportOf, reportRefusal}
 use Rattle.book.specs.Answers.{answersFrom, dealAnswer}
-use Rattle.book.specs.Book.{bookRefusal, bookReply, bookTests, dealsOf, resultsAfter}
+use Rattle.book.specs.Book.{bookEdition, bookRefusal, bookReply, bookTests, dealsOf, resultsAfter}
 use Rattle.book.specs.Deals.{DealLines}
 use Rattle.book_laws.specs.Parts.{AnsweredBy}
 
@@ -57,14 +57,14 @@ pub record Demand1 : Type 0 where
   pub report-says : (d : Deal) → answerNumber (reportOf d .answer) ≡ reportRefusal d
   -- a book as a whole is answered by 0 or one of its refusals ..
   pub book : (text : List ℕ) (places : ℕ) → Among (0 ∷ 10 ∷ 9 ∷ 12 ∷ 13 ∷ []) (bookRefusal text places)
-  -- .. and each deal in it by 0 or the refusal of a line, never by 40 ..
-  pub deal-in-book : (deal : DealLines) → Among (0 ∷ lineRefusals) (getD (dealAnswer deal) 0 0)
-  -- .. with the refused line's number, or the figures of an accepted deal's report
-  pub figures-in-book : (deal : DealLines) → AnsweredBy (dealAnswer deal)
+  -- .. and each deal in it, whatever edition the book says, by 0 or the refusal of a line, never by 40 ..
+  pub deal-in-book : (edition : ℕ) (deal : DealLines) → Among (0 ∷ lineRefusals) (getD (dealAnswer edition deal) 0 0)
+  -- .. with a line's number, or the figures of an accepted deal's report; which line and which deal these are is what `dealAnswer` says
+  pub figures-in-book : (edition : ℕ) (deal : DealLines) → AnsweredBy (dealAnswer edition deal)
   -- EXACTLY WHERE IT IS DUE
 
-  -- a refusal is given exactly where its own test is met and none before it, and 0 exactly where none is met: nothing is refused that
-  -- should be taken
+  -- a refusal is given exactly where its own test is met and none before it, and 0 exactly where none is met. What each test asks is read in
+  -- deal/specs (Terms, Collateral, Guarantees, with Ranges, Parties, Assets) and book/specs/Book
   pub opening-due : (t : Terms) → Exact (termsTests t)
   pub collateral-due : (d : Deal) (c : Collateral) → Exact (addCollateralTests d c)
   pub guarantee-due : (d : Deal) (g : Guarantee) → Exact (addGuaranteeTests d g)
@@ -79,7 +79,7 @@ pub record Demand1 : Type 0 where
   pub guarantee-added : (d : Deal) (g : Guarantee) → addGuaranteeRefusal d g ≡ 0 →
       (accepted (withGuarantee d g) ≡ true) × (withGuarantee d g ≡ dealOf (d .terms) (d .collateral) (appendGuarantee (d .guarantees) g))
   -- four numbers a deal are written from the front of the list, and nothing behind them
-  pub list-written : (text list : List ℕ) → bookRefusal text (length list) ≡ 0 → resultsAfter text list ≡ overwrite (answersFrom 1 (dealsOf text)) list
+  pub list-written : (text list : List ℕ) → bookRefusal text (length list) ≡ 0 → resultsAfter text list ≡ overwrite (answersFrom (bookEdition text) 1 (dealsOf text)) list
   pub deals-counted : (text : List ℕ) (places : ℕ) → bookRefusal text places ≡ 0 → bookReply text places .deals ≡ length (dealsOf text)
   -- WHAT IS REFUSED LEAVES THINGS AS THEY WERE
 

@@ -4,7 +4,7 @@
 --
 -- The contract of `relief::report::Report::of` says that the whole report is `reportOf`, every number of it; that of
 -- `book::answer::answer_book` says that a book's answers are made of those figures. docs/TRACE.md goes from each sentence of document 01
--- to its definition; the cells of the tables, the minimum holding periods and the like are read there and not proved. What follows is
+-- to its definition; under edition 2 the weights are those of 02: L5 (claims/specs/SovereignFloor). The cells of the tables, the minimum holding periods and the like are read there and not proved. What follows is
 -- proved of the definitions.
 use Prim.Native.Nat.{ℕ, _+_, _*_, _-_, _≤_, _<_, min}
 use mathlib.Core.Path.{_≡_}

@@ -3,7 +3,8 @@
 -- without protection. .. All rounding is included."
 --
 -- What a betterment is stands in betterment/specs/Betterments: `BetterItem` ("a larger item", "a better step between two rated steps of a
--- security or guarantor", "the deal's own currency", "longer residual or original cover", "a condition now met"), `OneMore` ("one more item"),
+-- security or guarantor", "the deal's own currency", "longer residual or original cover", "a condition now met"; since 02: L5 "A better step of a guarantor's sovereign,
+-- between rated steps", not the counterparty's), `OneMore` ("one more item"),
 -- `BetterTerms` ("more frequent revaluation", a better step of the goods lent). "A longer life of the pledged bond itself is not one": no
 -- constructor changes it. A list of them, refused ones among them, is `Betterments`. The amount is the one in the report that
 -- `relief::report::Report::of` gives, whose contract says that it is `reportOf`.

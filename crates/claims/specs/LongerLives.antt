@@ -2,16 +2,19 @@
 -- before keeps its answer. (For lives and terms 5 now begins above 100,000.)"
 --
 -- What ends in UpTo is a definition of opening, adding, reporting or answering a book with the limit as an argument in place of `daysLimit`
--- (earlier/specs/Deals, earlier/specs/Books); the fields ending in -now say of which. Everything in it but the limit is the rule of today: the
+-- (earlier/specs/Days); the fields ending in -now say which definition each is at the limit in force. Everything in it but the limit is the rule of today: the
 -- claim is about the limit alone. Calls on numbers (crate hadlephoga) go through the same operations. Every field holds 64 bits, and a number
 -- that is sent in a line has at most 13 digits: none had to be widened, and none is cut.
 use Prim.Native.Nat.{ℕ, _≤_}
 use mathlib.Core.Path.{_≡_}
 use mathlib.Core.Bool.{true, false, _&&_}
-use mathlib.Core.List.{List}
+use mathlib.Core.List.{List, [], _∷_, map}
 use lib.Dec.{eqb}
-use lib.ListN.{getD}
+use lib.ListN.{getD, replicate}
 use Rattle.deal.specs.Adding.{addCollateralRefusal, addGuaranteeRefusal, withCollateral, withGuarantee}
+use Rattle.deal.specs.Collateral.{collateralRefusal}
+use Rattle.deal.specs.Fields.{collateralIn, guaranteeIn, termsIn}
+use Rattle.deal.specs.Guarantees.{guaranteeRefusal}
 use Rattle.deal.specs.Opening.{openedDeal}
 use Rattle.deal.specs.Ranges.{daysAllowed, daysLimit}
 use Rattle.deal.specs.Records.{accepted}
@@ -22,11 +25,23 @@ use Rattle.deal.specs.declared.guarantee.Guarantee.{Guarantee}
 use Rattle.deal.specs.declared.deal.Deal.{Deal}
 use Rattle.relief.specs.Report.{reportOf, reportRefusal}
 use Rattle.book.specs.Answers.{dealAnswer}
-use Rattle.book.specs.Book.{linesBehind, resultsAfter}
+use Rattle.book.specs.Book.{bookEdition, linesBehind, resultsAfter}
 use Rattle.book.specs.Deals.{DealLines}
 use Rattle.response.specs.Response.{printed}
-use Rattle.earlier.specs.Books.{dealAnswerUpTo, dealLinesNoneAbove, linesNoneAbove, printedUpTo, resultsUpTo}
-use Rattle.earlier.specs.Deals.{acceptedUpTo, addCollateralRefusalUpTo, addGuaranteeRefusalUpTo, collateralDays, dealNoneAbove, guaranteeDays, noneAbove, openedUpTo, reportRefusalUpTo, reportUpTo, termsDays, termsRefusalUpTo, withCollateralUpTo, withGuaranteeUpTo}
+use Rattle.earlier.specs.Days.{acceptedUpTo, addCollateralRefusalUpTo, addGuaranteeRefusalUpTo, collateralDays, dealAnswerUpTo, dealLinesNoneAbove, dealNoneAbove, guaranteeDays, linesNoneAbove, noneAbove, openedUpTo, printedUpTo, reportRefusalUpTo, reportUpTo, resultsUpTo, termsDays, termsRefusalUpTo, withCollateralUpTo, withGuaranteeUpTo}
+
+-- the refusal of so many days: of a deal its residual term and the life of what it lends; of collateral its life and both terms; of a guarantee
+-- both terms. All else is right, and an original term is no shorter than the residual one
+abbrev pub sevenPlaces : List (ℕ → ℕ)
+sevenPlaces =
+    (λ n. termsRefusal (termsIn (500 ∷ 3 ∷ 0 ∷ 0 ∷ 978 ∷ 3 ∷ 1 ∷ n ∷ 1 ∷ 0 ∷ 0 ∷ 1 ∷ [])))
+    ∷ (λ n. termsRefusal (termsIn (500 ∷ 3 ∷ 0 ∷ 0 ∷ 978 ∷ 3 ∷ 1 ∷ 1800 ∷ 2 ∷ 1 ∷ n ∷ 1 ∷ [])))
+    ∷ (λ n. collateralRefusal (collateralIn (5 ∷ 2 ∷ 1 ∷ n ∷ 978 ∷ 1 ∷ 1 ∷ 1 ∷ 1 ∷ 1 ∷ 0 ∷ [])))
+    ∷ (λ n. collateralRefusal (collateralIn (5 ∷ 1 ∷ 0 ∷ 0 ∷ 978 ∷ n ∷ n ∷ 1 ∷ 1 ∷ 1 ∷ 0 ∷ [])))
+    ∷ (λ n. collateralRefusal (collateralIn (5 ∷ 1 ∷ 0 ∷ 0 ∷ 978 ∷ 1 ∷ n ∷ 1 ∷ 1 ∷ 1 ∷ 0 ∷ [])))
+    ∷ (λ n. guaranteeRefusal (guaranteeIn (5 ∷ 3 ∷ 6 ∷ 0 ∷ 978 ∷ n ∷ n ∷ 1 ∷ 1 ∷ 1 ∷ [])))
+    ∷ (λ n. guaranteeRefusal (guaranteeIn (5 ∷ 3 ∷ 6 ∷ 0 ∷ 978 ∷ 1 ∷ n ∷ 1 ∷ 1 ∷ 1 ∷ [])))
+    ∷ []
 
 -- what a limit that rises leaves as it was
 pub record Raised (before now : ℕ) : Type 0 where
@@ -64,12 +79,12 @@ pub record Raised (before now : ℕ) : Type 0 where
   -- IN A BOOK
 
   -- a deal that was answered by figures, or by another refusal than 5, is answered by the same three numbers ..
-  pub deal-stays : (deal : DealLines) → eqb (getD (dealAnswerUpTo before deal) 0 0) 5 ≡ false → dealAnswerUpTo now deal ≡ dealAnswerUpTo before deal
+  pub deal-stays : (edition : ℕ) (deal : DealLines) → eqb (getD (dealAnswerUpTo before edition deal) 0 0) 5 ≡ false → dealAnswerUpTo now edition deal ≡ dealAnswerUpTo before edition deal
   -- .. and so is every deal of which no line holds a term or life above the limit of before, whatever stands beside it
-  pub deal-same : (deal : DealLines) → dealLinesNoneAbove before deal ≡ true → dealAnswerUpTo now deal ≡ dealAnswerUpTo before deal
+  pub deal-same : (edition : ℕ) (deal : DealLines) → dealLinesNoneAbove before edition deal ≡ true → dealAnswerUpTo now edition deal ≡ dealAnswerUpTo before edition deal
   -- a book in which no line holds one has the same answers: every number of every results list, and every byte that is printed
-  pub book-same : (book list : List ℕ) → linesNoneAbove before (linesBehind book) ≡ true → resultsUpTo now book list ≡ resultsUpTo before book list
-  pub printed-same : (book : List ℕ) → linesNoneAbove before (linesBehind book) ≡ true → printedUpTo now book ≡ printedUpTo before book
+  pub book-same : (book list : List ℕ) → linesNoneAbove before (bookEdition book) (linesBehind book) ≡ true → resultsUpTo now book list ≡ resultsUpTo before book list
+  pub printed-same : (book : List ℕ) → linesNoneAbove before (bookEdition book) (linesBehind book) ≡ true → printedUpTo now book ≡ printedUpTo before book
 
 pub record LongerLives : Type 0 where
   -- FROM 36,000, "Days of life or cover are 1 to 36,000" (01: What a deal holds), TO 100,000
@@ -81,6 +96,9 @@ pub record LongerLives : Type 0 where
 
   pub limit : daysLimit ≡ 100000
   pub begins-above : (daysAllowed daysLimit 100000 ≡ true) × (daysAllowed daysLimit 100001 ≡ false)
+  -- in each of the seven places: 100,000 days are taken, and 100,001 are 5
+  pub taken : map (λ refusal. refusal 100000) sevenPlaces ≡ replicate 7 0
+  pub not-taken : map (λ refusal. refusal 100001) sevenPlaces ≡ replicate 7 5
   -- and with it each definition is the one that contracts name
   pub opening-now : (t : Terms) → (termsRefusalUpTo 100000 t ≡ termsRefusal t) × (openedUpTo 100000 t ≡ openedDeal t)
   pub accepted-now : (d : Deal) → acceptedUpTo 100000 d ≡ accepted d
@@ -89,7 +107,7 @@ pub record LongerLives : Type 0 where
   pub guarantee-now : (d : Deal) (g : Guarantee) →
       (addGuaranteeRefusalUpTo 100000 d g ≡ addGuaranteeRefusal d g) × (withGuaranteeUpTo 100000 d g ≡ withGuarantee d g)
   pub report-now : (d : Deal) → (reportRefusalUpTo 100000 d ≡ reportRefusal d) × (reportUpTo 100000 d ≡ reportOf d)
-  pub deal-now : (deal : DealLines) → dealAnswerUpTo 100000 deal ≡ dealAnswer deal
+  pub deal-now : (edition : ℕ) (deal : DealLines) → dealAnswerUpTo 100000 edition deal ≡ dealAnswer edition deal
   pub results-now : (book list : List ℕ) → resultsUpTo 100000 book list ≡ resultsAfter book list
   pub printed-now : (book : List ℕ) → printedUpTo 100000 book ≡ printed book
   -- UP TO ANY LIMIT what is not refused gives an accepted deal, so that what is said of adding holds line by line

@@ -25,7 +25,8 @@ use Rattle.deal.specs.declared.asset.Asset.{Asset}
 use Rattle.deal.specs.declared.terms.Terms.{Terms}
 use Rattle.deal.specs.declared.collateral.Collateral.{Collateral}
 use Rattle.deal.specs.declared.guarantee.Guarantee.{Guarantee}
-use Rattle.earlier.specs.Deals.{collateralDays, collateralTestsUpTo, guaranteeDays, guaranteeTestsUpTo, noneAbove, termsDays, termsTestsUpTo}
+use Rattle.earlier.specs.Days.{collateralDays, guaranteeDays, noneAbove, termsDays}
+use Rattle.earlier.specs.Rules.{upTo}
 
 -- a test among others that is met less often: where its number was not given, what is given stays
 first-eased : (front : List (Test ℕ)) (n : ℕ) (met met′ : Bool) (back : List (Test ℕ)) → (met ≡ false → met′ ≡ false) →
@@ -119,18 +120,18 @@ module _ (low high : ℕ) (raised : low ≤ high) where
       rw (days-same _ (residual .0), days-same _ (original .0))
 
   -- so a refusal stays, behind 6 where a list is full, unless it was a 5 and a day is above the lower limit
-  pub terms-stay : (t : Terms) → Kept (firstMet (termsTestsUpTo low t)) (noneAbove low (termsDays t)) → firstMet (termsTestsUpTo high t) ≡ firstMet (termsTestsUpTo low t)
+  pub terms-stay : (t : Terms) → Kept (firstMet (upTo low .termsTests t)) (noneAbove low (termsDays t)) → firstMet (upTo high .termsTests t) ≡ firstMet (upTo low .termsTests t)
   unfolding firstOr if_then_else_
   terms-stay t (inl e) = refusal-stays false (termsChecks low t) _ (terms-more t) e
   terms-stay t (inr e) = ap (λ r. firstMet (fieldTests (withRanges (termsChecks low t) r))) (terms-same t e)
 
-  pub collateral-stays : (full : Bool) (c : Collateral) → Kept (firstMet (6 when full ∷ collateralTestsUpTo low c)) (noneAbove low (collateralDays c)) →
-      firstMet (6 when full ∷ collateralTestsUpTo high c) ≡ firstMet (6 when full ∷ collateralTestsUpTo low c)
+  pub collateral-stays : (full : Bool) (c : Collateral) → Kept (firstMet (6 when full ∷ upTo low .collateralTests c)) (noneAbove low (collateralDays c)) →
+      firstMet (6 when full ∷ upTo high .collateralTests c) ≡ firstMet (6 when full ∷ upTo low .collateralTests c)
   collateral-stays full c (inl e) = refusal-stays full (collateralChecks low c) _ (collateral-more c) e
   collateral-stays full c (inr e) = ap (λ r. firstMet (6 when full ∷ fieldTests (withRanges (collateralChecks low c) r))) (collateral-same c e)
 
-  pub guarantee-stays : (full : Bool) (g : Guarantee) → Kept (firstMet (6 when full ∷ guaranteeTestsUpTo low g)) (noneAbove low (guaranteeDays g)) →
-      firstMet (6 when full ∷ guaranteeTestsUpTo high g) ≡ firstMet (6 when full ∷ guaranteeTestsUpTo low g)
+  pub guarantee-stays : (full : Bool) (g : Guarantee) → Kept (firstMet (6 when full ∷ upTo low .guaranteeTests g)) (noneAbove low (guaranteeDays g)) →
+      firstMet (6 when full ∷ upTo high .guaranteeTests g) ≡ firstMet (6 when full ∷ upTo low .guaranteeTests g)
   guarantee-stays full g (inl e) = refusal-stays full (guaranteeChecks low g) _ (guarantee-more g) e
   guarantee-stays full g (inr e) = ap (λ r. firstMet (6 when full ∷ fieldTests (withRanges (guaranteeChecks low g) r))) (guarantee-same g e)
 
@@ -147,19 +148,19 @@ module _ (limit : ℕ) where
       go true h = days-short (a .life) h
       go false h = le-leb (a .life) limit (omega (arith, eqb-true (a .life) 0 h))
 
-  pub terms-days : (t : Terms) → NoneMet (termsTestsUpTo limit t) → noneAbove limit (termsDays t) ≡ true
+  pub terms-days : (t : Terms) → NoneMet (upTo limit .termsTests t) → noneAbove limit (termsDays t) ≡ true
   terms-days t n =
       let days = both (intervalAllowed (t .interval) && daysAllowed limit (t .residual)) _ (held _ (n .1 .1 .1 .1 .0)) in
       let term = both (intervalAllowed (t .interval)) _ (days .0) in
       and-true _ _ (days-short _ (term .1)) (and-true _ _ (life-short (t .lent) (days .1)) refl)
 
-  pub collateral-days : (c : Collateral) → NoneMet (collateralTestsUpTo limit c) → noneAbove limit (collateralDays c) ≡ true
+  pub collateral-days : (c : Collateral) → NoneMet (upTo limit .collateralTests c) → noneAbove limit (collateralDays c) ≡ true
   collateral-days c n =
       let days = both (daysAllowed limit (c .residual) && daysAllowed limit (c .original)) _ (held _ (n .1 .1 .1 .1 .0)) in
       let terms = both (daysAllowed limit (c .residual)) _ (days .0) in
       and-true _ _ (days-short _ (terms .0)) (and-true _ _ (days-short _ (terms .1)) (and-true _ _ (life-short (c .asset) (days .1)) refl))
 
-  pub guarantee-days : (g : Guarantee) → NoneMet (guaranteeTestsUpTo limit g) → noneAbove limit (guaranteeDays g) ≡ true
+  pub guarantee-days : (g : Guarantee) → NoneMet (upTo limit .guaranteeTests g) → noneAbove limit (guaranteeDays g) ≡ true
   guarantee-days g n =
       let terms = both (daysAllowed limit (g .residual)) _ (held _ (n .1 .1 .1 .1 .0)) in
       and-true _ _ (days-short _ (terms .0)) (and-true _ _ (days-short _ (terms .1)) refl)

@@ -1,5 +1,8 @@
+pub mod Accepted
+pub mod Lines
 pub mod Fields
-pub mod Deals
-pub mod Books
+pub mod Days
+pub mod DaysInBooks
 pub mod Now
+pub mod BeforeFloor
 pub mod Examples

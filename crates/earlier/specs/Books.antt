@@ -1,95 +1,106 @@
--- The answers to a book with the limit of days as an argument. 02: L11. Each is the definition that it is named after (`answersUpTo` of
--- `answersFrom`, `resultsUpTo` of `resultsAfter`) with `limit` in place of `daysLimit`; with `daysLimit` it is proved to be that one (proofs/Now)
-use Prim.Native.Nat.{ℕ, _+_}
-use mathlib.Core.Bool.{Bool, true}
+-- The answers to a book by a set of rules. Each follows the definition that it is named after (`answersBy` of `answersFrom`, `resultsBy` of
+-- `resultsAfter`); by the rules in force it is proved to be that one (proofs/Now)
+use Prim.Native.Nat.{ℕ, _+_, _*_}
+use mathlib.Core.Bool.{not}
 use mathlib.Core.List.{List, [], _∷_, _++_}
-use lib.Dec.{eqb}
-use lib.ListN.{length}
+use lib.Dec.{eqb, ltb}
+use lib.ListN.{length, take}
 use Rattle.base.specs.All.{allPass}
 use Rattle.base.specs.Choice.{if_then_else_}
+use Rattle.base.specs.FirstMet.{Test, _when_, firstMet}
 use Rattle.base.specs.Writing.{overwrite}
+use Rattle.text.specs.Text.{firstLine}
 use Rattle.deal.specs.declared.deal.Deal.{Deal}
-use Rattle.lines.specs.Lines.{lineOf}
 use Rattle.lines.specs.declared.line.Line.{Line}
 use Rattle.lines.specs.declared.line.Line.the-variants.{DealLine, CollateralLine, GuaranteeLine, Malformed}
 use Rattle.book.specs.Answers.{malformedLine, noDeal, refusedAt}
-use Rattle.book.specs.Book.{answeredDeals, bookRefusal}
-use Rattle.book.specs.Deals.{DealLines}
+use Rattle.book.specs.Book.{bookLimit, dealsOf, linesBehind}
+use Rattle.book.specs.Deals.{DealLines, opensDeal}
+use Rattle.book.specs.Heading.{editionOf, isWrong}
+use Rattle.book.specs.declared.reply.BookReply.{BookReply}
 use Rattle.result.specs.Result.{resultText}
 use Rattle.response.specs.Response.{places}
-use Rattle.earlier.specs.Deals.{addCollateralRefusalUpTo, addGuaranteeRefusalUpTo, collateralDays, guaranteeDays, noneAbove, openedUpTo, reportRefusalUpTo, reportUpTo, termsDays, termsRefusalUpTo, withCollateralUpTo, withGuaranteeUpTo}
+use Rattle.earlier.specs.Deals.{addCollateralRefusalBy, addGuaranteeRefusalBy, dealOpenedBy, reportBy, reportRefusalBy, termsRefusalBy, withCollateralBy, withGuaranteeBy}
+use Rattle.earlier.specs.Rules.{Rules}
 
-unfoldable pub openingRefusalUpTo : ℕ → Line → ℕ
-openingRefusalUpTo limit (DealLine terms) = termsRefusalUpTo limit terms
-openingRefusalUpTo limit (CollateralLine c) = malformedLine
-openingRefusalUpTo limit (GuaranteeLine g) = malformedLine
-openingRefusalUpTo limit Malformed = malformedLine
+-- A deal of a book
 
-unfoldable pub openedByUpTo : ℕ → Line → Deal
-openedByUpTo limit (DealLine terms) = openedUpTo limit terms
-openedByUpTo limit (CollateralLine c) = noDeal
-openedByUpTo limit (GuaranteeLine g) = noDeal
-openedByUpTo limit Malformed = noDeal
+unfoldable pub openingRefusalBy : Rules → Line → ℕ
+openingRefusalBy rules (DealLine terms) = termsRefusalBy rules terms
+openingRefusalBy rules (CollateralLine c) = malformedLine
+openingRefusalBy rules (GuaranteeLine g) = malformedLine
+openingRefusalBy rules Malformed = malformedLine
 
-unfoldable pub lineRefusalUpTo : ℕ → Deal → Line → ℕ
-lineRefusalUpTo limit d (CollateralLine c) = addCollateralRefusalUpTo limit d c
-lineRefusalUpTo limit d (GuaranteeLine g) = addGuaranteeRefusalUpTo limit d g
-lineRefusalUpTo limit d (DealLine terms) = malformedLine
-lineRefusalUpTo limit d Malformed = malformedLine
+unfoldable pub lineOpenedBy : Rules → Line → Deal
+lineOpenedBy rules (DealLine terms) = dealOpenedBy rules terms
+lineOpenedBy rules (CollateralLine c) = noDeal
+lineOpenedBy rules (GuaranteeLine g) = noDeal
+lineOpenedBy rules Malformed = noDeal
 
-unfoldable pub withLineUpTo : ℕ → Deal → Line → Deal
-withLineUpTo limit d (CollateralLine c) = withCollateralUpTo limit d c
-withLineUpTo limit d (GuaranteeLine g) = withGuaranteeUpTo limit d g
-withLineUpTo limit d (DealLine terms) = d
-withLineUpTo limit d Malformed = d
+unfoldable pub lineRefusalBy : Rules → Deal → Line → ℕ
+lineRefusalBy rules d (CollateralLine c) = addCollateralRefusalBy rules d c
+lineRefusalBy rules d (GuaranteeLine g) = addGuaranteeRefusalBy rules d g
+lineRefusalBy rules d (DealLine terms) = malformedLine
+lineRefusalBy rules d Malformed = malformedLine
 
-unfoldable pub reportedUpTo : ℕ → ℕ → Deal → List ℕ
-reportedUpTo limit opening d =
-    if eqb (reportRefusalUpTo limit d) 0
-    then 0 ∷ reportUpTo limit d .exposure ∷ reportUpTo limit d .rwa ∷ []
-    else refusedAt (reportRefusalUpTo limit d) opening
+unfoldable pub withLineBy : Rules → Deal → Line → Deal
+withLineBy rules d (CollateralLine c) = withCollateralBy rules d c
+withLineBy rules d (GuaranteeLine g) = withGuaranteeBy rules d g
+withLineBy rules d (DealLine terms) = d
+withLineBy rules d Malformed = d
 
-unfoldable pub linesAnswerUpTo : ℕ → ℕ → ℕ → Deal → List (List ℕ) → List ℕ
-linesAnswerUpTo limit opening number d [] = reportedUpTo limit opening d
-linesAnswerUpTo limit opening number d (line ∷ lines) =
-    let refusal = lineRefusalUpTo limit d (lineOf line) in
-    if eqb refusal 0 then linesAnswerUpTo limit opening (number + 1) (withLineUpTo limit d (lineOf line)) lines else refusedAt refusal number
+unfoldable pub reportedBy : Rules → ℕ → Deal → List ℕ
+reportedBy rules opening d =
+    if eqb (reportRefusalBy rules d) 0
+    then 0 ∷ reportBy rules d .exposure ∷ reportBy rules d .rwa ∷ []
+    else refusedAt (reportRefusalBy rules d) opening
+
+unfoldable pub linesAnswerBy : Rules → ℕ → ℕ → Deal → List (List ℕ) → List ℕ
+linesAnswerBy rules opening number d [] = reportedBy rules opening d
+linesAnswerBy rules opening number d (line ∷ lines) =
+    let said = rules .line (d .terms .edition) line in
+    let refusal = lineRefusalBy rules d said in
+    if eqb refusal 0 then linesAnswerBy rules opening (number + 1) (withLineBy rules d said) lines else refusedAt refusal number
 
 -- the three numbers of a deal's answer
-unfoldable pub dealAnswerUpTo : ℕ → DealLines → List ℕ
-dealAnswerUpTo limit deal =
-    let line = lineOf (deal .opening) in
-    if eqb (openingRefusalUpTo limit line) 0
-    then linesAnswerUpTo limit (deal .number) (deal .number + 1) (openedByUpTo limit line) (deal .further)
-    else refusedAt (openingRefusalUpTo limit line) (deal .number)
+unfoldable pub dealAnswerBy : Rules → ℕ → DealLines → List ℕ
+dealAnswerBy rules edition deal =
+    let line = rules .line edition (deal .opening) in
+    if eqb (openingRefusalBy rules line) 0
+    then linesAnswerBy rules (deal .number) (deal .number + 1) (lineOpenedBy rules line) (deal .further)
+    else refusedAt (openingRefusalBy rules line) (deal .number)
 
-unfoldable pub answersUpTo : ℕ → ℕ → List DealLines → List ℕ
-answersUpTo limit serial [] = []
-answersUpTo limit serial (deal ∷ deals) = serial ∷ (dealAnswerUpTo limit deal ++ answersUpTo limit (serial + 1) deals)
+unfoldable pub answersBy : Rules → ℕ → ℕ → List DealLines → List ℕ
+answersBy rules edition serial [] = []
+answersBy rules edition serial (deal ∷ deals) = serial ∷ (dealAnswerBy rules edition deal ++ answersBy rules edition (serial + 1) deals)
 
--- the results list after a book, and what is printed for it. Refusals of a whole book ask for no days, so `bookReply` is the same under every
--- limit
-unfoldable pub resultsUpTo : ℕ → List ℕ → List ℕ → List ℕ
-resultsUpTo limit book list = overwrite (answersUpTo limit 1 (answeredDeals book (length list))) list
+-- A book
 
-unfoldable pub printedUpTo : ℕ → List ℕ → List ℕ
-printedUpTo limit book =
-    let deals = answeredDeals book places in
-    resultText (bookRefusal book places) (length deals) (answersUpTo limit 1 deals)
+abbrev pub editionBy : Rules → List ℕ → ℕ
+editionBy rules book = editionOf (rules .heading (firstLine book))
 
--- THE DAYS OF LINES
+unfoldable pub bookTestsBy : Rules → List ℕ → ℕ → List (Test ℕ)
+bookTestsBy rules book places =
+    10 when ltb bookLimit (length book)
+    ∷ 9 when isWrong (rules .heading (firstLine book))
+    ∷ 12 when not (allPass (take 1 (linesBehind book)) opensDeal)
+    ∷ 13 when ltb places (4 * length (dealsOf book))
+    ∷ []
 
--- whether a line holds no term or life above a limit; a line that cannot be read holds none
-unfoldable pub lineNoneAbove : ℕ → Line → Bool
-lineNoneAbove limit (DealLine terms) = noneAbove limit (termsDays terms)
-lineNoneAbove limit (CollateralLine c) = noneAbove limit (collateralDays c)
-lineNoneAbove limit (GuaranteeLine g) = noneAbove limit (guaranteeDays g)
-lineNoneAbove limit Malformed = true
+unfoldable pub bookRefusalBy : Rules → List ℕ → ℕ → ℕ
+bookRefusalBy rules book places = firstMet (bookTestsBy rules book places)
 
--- no line of a list holds one
-abbrev pub linesNoneAbove : ℕ → List (List ℕ) → Bool
-linesNoneAbove limit lines = allPass lines (λ line. lineNoneAbove limit (lineOf line))
+unfoldable pub answeredDealsBy : Rules → List ℕ → ℕ → List DealLines
+answeredDealsBy rules book places = if eqb (bookRefusalBy rules book places) 0 then dealsOf book else []
 
--- no line of a deal holds one
-abbrev pub dealLinesNoneAbove : ℕ → DealLines → Bool
-dealLinesNoneAbove limit deal = linesNoneAbove limit (deal .opening ∷ deal .further)
+unfoldable pub bookReplyBy : Rules → List ℕ → ℕ → BookReply
+bookReplyBy rules book places = record { refusal = bookRefusalBy rules book places; deals = length (answeredDealsBy rules book places) }
+
+-- the results list after a book, and what is printed for it
+unfoldable pub resultsBy : Rules → List ℕ → List ℕ → List ℕ
+resultsBy rules book list = overwrite (answersBy rules (editionBy rules book) 1 (answeredDealsBy rules book (length list))) list
+
+unfoldable pub printedBy : Rules → List ℕ → List ℕ
+printedBy rules book =
+    let deals = answeredDealsBy rules book places in
+    resultText (bookRefusalBy rules book places) (length deals) (answersBy rules (editionBy rules book) 1 deals)

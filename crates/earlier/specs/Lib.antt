@@ -1,2 +1,5 @@
+pub mod BeforeFloor
 pub mod Books
+pub mod Days
 pub mod Deals
+pub mod Rules
