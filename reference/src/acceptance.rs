@@ -1,10 +1,10 @@
 //! Opening a deal, adding to it, and the test of a whole record
-//! (01: The four operations; 02: L11).
+//! (01: The four operations; 02: L5, L11).
 
 use crate::record::{
     place, Collateral, Guarantee, Record, Terms, AMOUNT_LIMIT, DAYS_LIMIT, LIST_LIMIT,
 };
-use crate::{refusal, tables};
+use crate::{edition, refusal, tables};
 
 /// Opens a deal with empty lists, or gives the refusal.
 pub fn open(terms: Terms) -> Result<Record, u64> {
@@ -68,10 +68,12 @@ pub(crate) fn is_accepted(record: &Record) -> bool {
 fn check_terms(terms: &Terms) -> Result<(), u64> {
     let retail = terms.class == tables::RETAIL;
     ensure(terms.amount <= AMOUNT_LIMIT, refusal::AMOUNT)?;
+    ensure(edition::is_known(terms.edition), refusal::CODE)?;
     ensure((1..=4).contains(&terms.class), refusal::CODE)?;
     ensure((1..=3).contains(&terms.kind), refusal::CODE)?;
     ensure((1..=9).contains(&terms.lent_goods), refusal::CODE)?;
     ensure(is_step(terms.step, retail), refusal::STEP)?;
+    check_sovereign_step(terms.class, terms.sovereign_step)?;
     check_goods_step(terms.lent_goods, terms.lent_step)?;
     check_currency(terms.currency)?;
     ensure((1..=250).contains(&terms.interval), refusal::DAYS)?;
@@ -93,9 +95,16 @@ fn check_guarantee(item: &Guarantee) -> Result<(), u64> {
     ensure(item.amount <= AMOUNT_LIMIT, refusal::AMOUNT)?;
     ensure((1..=3).contains(&item.class), refusal::CODE)?;
     ensure(is_step(item.step, false), refusal::STEP)?;
+    check_sovereign_step(item.class, item.sovereign_step)?;
     check_currency(item.currency)?;
     check_cover(item.residual, item.original)?;
     check_conditions([item.lawful, item.direct, item.unreflected])
+}
+
+/// Sovereigns and retail have no sovereign of incorporation: theirs is sent as
+/// 0, under every edition (02: L5).
+fn check_sovereign_step(class: u64, step: u64) -> Result<(), u64> {
+    ensure(is_step(step, !tables::has_sovereign(class)), refusal::STEP)
 }
 
 fn check_goods_step(goods: u64, step: u64) -> Result<(), u64> {

@@ -1,33 +1,42 @@
-//! Reading a book (01: The book): its lines, the fields of a line, and the
-//! deals that the lines make up.
+//! Reading a book (01: The book; 02: L5): its lines, the fields of a line, and
+//! the deals that the lines make up.
 
 use std::iter::Peekable;
 
 use crate::acceptance::{open, push_collateral, push_guarantee};
 use crate::record::{Collateral, Guarantee, Record, Terms};
-use crate::refusal;
+use crate::{edition, refusal};
 
 const LONGEST: usize = 65_536;
-const HEADER: &[u8] = b"CRM\t1\n";
 const DEAL_START: &[u8] = b"D\t";
 const MOST_DIGITS: usize = 13;
+/// Place of the sovereign's step among the numbers of a D or G line: right
+/// behind the step.
+const SOVEREIGN_STEP: usize = 3;
 
-/// The lines behind the header, where refusals 10, 9 and 12 do not fall.
-pub fn body(book: &[u8]) -> Result<&[u8], u64> {
+/// The edition that a book's header names, and the lines behind the header.
+#[derive(Clone, Copy, Debug)]
+pub struct Body<'a> {
+    edition: u64,
+    text: &'a [u8],
+}
+
+/// The body of a book on which refusals 10, 9 and 12 do not fall.
+pub fn body(book: &[u8]) -> Result<Body<'_>, u64> {
     if book.len() > LONGEST {
         return Err(refusal::LENGTH);
     }
-    let body = book.strip_prefix(HEADER).ok_or(refusal::HEADER)?;
-    if body.is_empty() || body.starts_with(DEAL_START) {
-        Ok(body)
+    let (edition, text) = edition::headed(book).ok_or(refusal::HEADER)?;
+    if text.is_empty() || text.starts_with(DEAL_START) {
+        Ok(Body { edition, text })
     } else {
         Err(refusal::SECOND_LINE)
     }
 }
 
 /// The deals that the lines open, those that will be refused among them.
-pub fn deal_count(body: &[u8]) -> usize {
-    lines(body).filter(|line| opens_deal(line)).count()
+pub fn deal_count(body: Body<'_>) -> usize {
+    lines(body.text).filter(|line| opens_deal(line)).count()
 }
 
 /// The first refused line of a deal.
@@ -40,13 +49,15 @@ pub struct RefusedLine {
 
 /// The deals of a body, in order: the record that a deal ends with, or its
 /// first refused line.
-pub fn read_deals(body: &[u8]) -> impl Iterator<Item = Result<Record, RefusedLine>> + '_ {
+pub fn read_deals(body: Body<'_>) -> impl Iterator<Item = Result<Record, RefusedLine>> + '_ {
     DealReader {
-        lines: (2..).zip(lines(body)).peekable(),
+        edition: body.edition,
+        lines: (2..).zip(lines(body.text)).peekable(),
     }
 }
 
 struct DealReader<'a, I: Iterator<Item = (u64, &'a [u8])>> {
+    edition: u64,
     lines: Peekable<I>,
 }
 
@@ -55,7 +66,8 @@ impl<'a, I: Iterator<Item = (u64, &'a [u8])>> Iterator for DealReader<'a, I> {
 
     fn next(&mut self) -> Option<Self::Item> {
         let (line, text) = self.lines.next()?;
-        let mut deal = open_by(text).map_err(|refusal| RefusedLine { refusal, line });
+        let opened = open_by(text, self.edition);
+        let mut deal = opened.map_err(|refusal| RefusedLine { refusal, line });
         while let Some((line, text)) = self.lines.next_if(|(_, text)| !opens_deal(text)) {
             // Behind a refused line the others only count.
             let Ok(record) = &mut deal else { continue };
@@ -67,8 +79,8 @@ impl<'a, I: Iterator<Item = (u64, &'a [u8])>> Iterator for DealReader<'a, I> {
     }
 }
 
-fn open_by(line: &[u8]) -> Result<Record, u64> {
-    match read(line) {
+fn open_by(line: &[u8], edition: u64) -> Result<Record, u64> {
+    match read(line, edition) {
         Some(Entry::Deal(terms)) => open(terms),
         _ => Err(refusal::LINE),
     }
@@ -76,7 +88,7 @@ fn open_by(line: &[u8]) -> Result<Record, u64> {
 
 /// The record was built line by line, so that 40 needs no test here.
 fn add_by(line: &[u8], record: &mut Record) -> Result<(), u64> {
-    match read(line) {
+    match read(line, record.terms.edition) {
         Some(Entry::Collateral(item)) => push_collateral(record, item),
         Some(Entry::Guarantee(item)) => push_guarantee(record, item),
         _ => Err(refusal::LINE),
@@ -99,22 +111,37 @@ enum Entry {
     Guarantee(Guarantee),
 }
 
-/// Reads a whole line; none where refusal 11 falls on it.
-fn read(line: &[u8]) -> Option<Entry> {
+/// Reads a whole line of a book of the edition; none where refusal 11 falls on
+/// it.
+fn read(line: &[u8], edition: u64) -> Option<Entry> {
     let mut pieces = line.strip_suffix(b"\n")?.split(|&byte| byte == b'\t');
+    let unsent = (!edition::sends_sovereign(edition)).then_some(SOVEREIGN_STEP);
     match pieces.next()? {
-        b"D" => Some(Entry::Deal(numbers(pieces)?.into())),
-        b"C" => Some(Entry::Collateral(numbers(pieces)?.into())),
-        b"G" => Some(Entry::Guarantee(numbers(pieces)?.into())),
+        b"D" => Some(Entry::Deal(terms(numbers(pieces, unsent)?, edition))),
+        b"C" => Some(Entry::Collateral(numbers(pieces, None)?.into())),
+        b"G" => Some(Entry::Guarantee(numbers(pieces, unsent)?.into())),
         _ => None,
     }
 }
 
-/// Exactly as many numbers as the line's letter has fields.
-fn numbers<'a, const N: usize>(mut pieces: impl Iterator<Item = &'a [u8]>) -> Option<[u64; N]> {
+/// The terms of a D line's numbers and of what the header says.
+fn terms(sent: [u64; 11], edition: u64) -> Terms {
+    let mut fields = [edition; 12];
+    fields[..sent.len()].copy_from_slice(&sent);
+    fields.into()
+}
+
+/// Exactly as many numbers as the line's letter has fields. A place that such
+/// lines do not send reads 0.
+fn numbers<'a, const N: usize>(
+    mut pieces: impl Iterator<Item = &'a [u8]>,
+    unsent: Option<usize>,
+) -> Option<[u64; N]> {
     let mut numbers = [0; N];
-    for place in &mut numbers {
-        *place = number(pieces.next()?)?;
+    for (place, field) in numbers.iter_mut().enumerate() {
+        if unsent != Some(place) {
+            *field = number(pieces.next()?)?;
+        }
     }
     pieces.next().is_none().then_some(numbers)
 }
@@ -164,15 +191,15 @@ mod tests {
     #[test]
     fn a_line_needs_its_letter_its_fields_and_its_line_feed() {
         assert!(matches!(
-            read(b"D\t1\t3\t0\t978\t3\t1\t90\t1\t0\t0\n"),
+            read(b"D\t1\t3\t0\t978\t3\t1\t90\t1\t0\t0\n", 1),
             Some(Entry::Deal(_))
         ));
         assert!(matches!(
-            read(b"C\t1\t1\t0\t0\t978\t90\t90\t1\t1\t1\t0\n"),
+            read(b"C\t1\t1\t0\t0\t978\t90\t90\t1\t1\t1\t0\n", 1),
             Some(Entry::Collateral(_))
         ));
         assert!(matches!(
-            read(b"G\t1\t1\t1\t978\t90\t90\t1\t1\t1\n"),
+            read(b"G\t1\t1\t1\t978\t90\t90\t1\t1\t1\n", 1),
             Some(Entry::Guarantee(_))
         ));
         for bad in [
@@ -190,8 +217,59 @@ mod tests {
             b"CC\t1\t1\t0\t0\t978\t90\t90\t1\t1\t1\t0\n",
             b"X\t1\n",
         ] {
-            assert!(read(bad).is_none(), "{bad:?}");
+            assert!(read(bad, 1).is_none(), "{bad:?}");
         }
+    }
+
+    /// A line of as many ones as it takes to have the fields.
+    fn line_of(letter: &str, fields: usize) -> Vec<u8> {
+        let ones = "\t1".repeat(fields - 1);
+        format!("{letter}{ones}\n").into_bytes()
+    }
+
+    #[test]
+    fn lines_have_the_fields_of_their_edition() {
+        for (edition, letter, expected) in [
+            (1, "D", 11),
+            (1, "C", 12),
+            (1, "G", 10),
+            (2, "D", 12),
+            (2, "C", 12),
+            (2, "G", 11),
+        ] {
+            for fields in 1..=15 {
+                let reads = read(&line_of(letter, fields), edition).is_some();
+                assert_eq!(reads, fields == expected, "{edition} {letter} {fields}");
+            }
+        }
+    }
+
+    /// Step, sovereign's step, currency and edition of a D line.
+    fn read_deal(line: &[u8], edition: u64) -> Option<[u64; 4]> {
+        match read(line, edition)? {
+            Entry::Deal(t) => Some([t.step, t.sovereign_step, t.currency, t.edition]),
+            _ => None,
+        }
+    }
+
+    /// Step, sovereign's step and currency of a G line.
+    fn read_guarantee(line: &[u8], edition: u64) -> Option<[u64; 3]> {
+        match read(line, edition)? {
+            Entry::Guarantee(g) => Some([g.step, g.sovereign_step, g.currency]),
+            _ => None,
+        }
+    }
+
+    #[test]
+    fn the_step_of_the_sovereign_stands_behind_the_step() {
+        let deal = b"D\t1\t3\t4\t978\t3\t1\t90\t1\t0\t0\n";
+        assert_eq!(read_deal(deal, 1), Some([4, 0, 978, 1]));
+        let deal = b"D\t1\t3\t4\t5\t978\t3\t1\t90\t1\t0\t0\n";
+        assert_eq!(read_deal(deal, 2), Some([4, 5, 978, 2]));
+        let guarantee = b"G\t1\t2\t4\t978\t90\t90\t1\t1\t1\n";
+        assert_eq!(read_guarantee(guarantee, 1), Some([4, 0, 978]));
+        let guarantee = b"G\t1\t2\t4\t5\t978\t90\t90\t1\t1\t1\n";
+        assert_eq!(read_guarantee(guarantee, 2), Some([4, 5, 978]));
     }
 
     #[test]

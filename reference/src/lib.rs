@@ -1,6 +1,6 @@
 //! A second implementation of the relief calculator of document 01, with
-//! request L11 of document 02, written from the papers alone: exposure after
-//! collateral (E*), grounds for protection left out, and the risk-weighted
+//! requests L5 and L11 of document 02, written from the papers alone: exposure
+//! after collateral (E*), grounds for protection left out, and the risk-weighted
 //! amount, for a book of deals or for one deal.
 //!
 //! No function panics or overflows, whatever the input: the numbers of a record
@@ -12,6 +12,7 @@
 mod acceptance;
 mod answer;
 mod book;
+mod edition;
 mod maturity;
 mod printing;
 mod protection;
@@ -20,6 +21,7 @@ mod reporting;
 mod scaling;
 mod share;
 mod tables;
+mod weights;
 
 pub mod ground;
 pub mod refusal;

@@ -6,6 +6,7 @@ use crate::maturity::maturity_share;
 use crate::record::{Collateral, Guarantee, Terms};
 use crate::scaling::{deal_days, guarantee_days, scaled};
 use crate::share::Share;
+use crate::weights::{counterparty_weight, provider_weight};
 use crate::{ground, tables};
 
 /// Value of an item of collateral of an accepted deal.
@@ -31,21 +32,13 @@ pub fn guarantee_value(terms: &Terms, item: &Guarantee) -> Result<u64, u8> {
     ensure(!unrated_entity, ground::UNRATED_PROVIDER)?;
     let surviving = maturity_share(item.residual, item.original, terms.residual)?;
     ensure(
-        provider_weight(item) < counterparty_weight(terms),
+        provider_weight(item, terms.edition) < counterparty_weight(terms),
         ground::WEIGHT_NOT_LOWER,
     )?;
 
     let days = guarantee_days(terms.interval);
     let haircut = currency_haircut(item.currency, terms.currency, days);
     Ok(surviving.of(Share::left_by(haircut).of(item.amount)))
-}
-
-pub fn provider_weight(item: &Guarantee) -> u64 {
-    tables::risk_weight(item.class, item.step)
-}
-
-pub fn counterparty_weight(terms: &Terms) -> u64 {
-    tables::risk_weight(terms.class, terms.step)
 }
 
 /// Scaled by itself, before it is added to another haircut.

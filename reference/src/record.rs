@@ -17,6 +17,8 @@ pub struct Terms {
     /// Counterparty: 1 sovereign, 2 bank, 3 corporate, 4 retail.
     pub class: u64,
     pub step: u64,
+    /// Step of the counterparty's sovereign of incorporation (02: L5).
+    pub sovereign_step: u64,
     pub currency: u64,
     /// 1 repo-style, 2 other capital market, 3 secured lending.
     pub kind: u64,
@@ -26,6 +28,9 @@ pub struct Terms {
     pub lent_goods: u64,
     pub lent_step: u64,
     pub lent_life: u64,
+    /// What the header of the deal's book says: 1 without, 2 with the floor of
+    /// the sovereign's weight (02: L5).
+    pub edition: u64,
 }
 
 /// An item of collateral.
@@ -56,6 +61,8 @@ pub struct Guarantee {
     /// Provider: 1 sovereign, 2 bank or securities firm, 3 other entity.
     pub class: u64,
     pub step: u64,
+    /// Step of the provider's sovereign of incorporation (02: L5).
+    pub sovereign_step: u64,
     pub currency: u64,
     pub residual: u64,
     pub original: u64,
@@ -108,15 +115,16 @@ pub(crate) fn place(count: u64) -> usize {
     count.min(LIST_LIMIT as u64) as usize
 }
 
-impl From<[u64; 10]> for Terms {
-    /// The fields in the order of a D line.
-    fn from(fields: [u64; 10]) -> Self {
-        let [amount, class, step, currency, kind, interval, residual, lent_goods, lent_step, lent_life] =
+impl From<[u64; 12]> for Terms {
+    /// The fields in the order of a D line of edition 2, then the edition.
+    fn from(fields: [u64; 12]) -> Self {
+        let [amount, class, step, sovereign_step, currency, kind, interval, residual, lent_goods, lent_step, lent_life, edition] =
             fields;
         Terms {
             amount,
             class,
             step,
+            sovereign_step,
             currency,
             kind,
             interval,
@@ -124,6 +132,7 @@ impl From<[u64; 10]> for Terms {
             lent_goods,
             lent_step,
             lent_life,
+            edition,
         }
     }
 }
@@ -149,15 +158,16 @@ impl From<[u64; 11]> for Collateral {
     }
 }
 
-impl From<[u64; 9]> for Guarantee {
-    /// The fields in the order of a G line.
-    fn from(fields: [u64; 9]) -> Self {
-        let [amount, class, step, currency, residual, original, lawful, direct, unreflected] =
+impl From<[u64; 10]> for Guarantee {
+    /// The fields in the order of a G line of edition 2.
+    fn from(fields: [u64; 10]) -> Self {
+        let [amount, class, step, sovereign_step, currency, residual, original, lawful, direct, unreflected] =
             fields;
         Guarantee {
             amount,
             class,
             step,
+            sovereign_step,
             currency,
             residual,
             original,

@@ -1,10 +1,10 @@
-//! The refusals by number (01: The four operations, The book).
+//! The refusals by number (01: The four operations, The book; 02: L5).
 
 /// Amount over the limit.
 pub const AMOUNT: u64 = 1;
-/// Unknown class, kind or goods type.
+/// Unknown edition, class, kind or goods type.
 pub const CODE: u64 = 2;
-/// Step above 6, or not 0 where 0 is due.
+/// Step or sovereign's step above 6, or not 0 where 0 is due.
 pub const STEP: u64 = 3;
 /// Currency outside 1 to 999.
 pub const CURRENCY: u64 = 4;

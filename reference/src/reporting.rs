@@ -1,10 +1,11 @@
 //! Reporting a deal (01: From items to the weighted amount; Reporting a deal).
 
 use crate::acceptance::is_accepted;
-use crate::protection::{collateral_value, counterparty_weight, guarantee_value, provider_weight};
-use crate::record::{Guarantee, Record, Terms, LIST_LIMIT};
+use crate::protection::{collateral_value, guarantee_value};
+use crate::record::{Record, Terms, LIST_LIMIT};
 use crate::scaling::{deal_days, scaled};
 use crate::share::raised;
+use crate::weights::{counterparty_weight, provider_weight};
 use crate::{refusal, tables};
 
 /// What an item counts for: its value, or the ground for leaving it out.
@@ -116,7 +117,7 @@ fn cover(record: &Record, report: &mut Report) {
     let mut rest = report.exposure;
     let mut hundredfold = 0;
     let mut ranking = [(0, 0); LIST_LIMIT];
-    for &(weight, place) in ranked(record.counted_guarantees(), report, &mut ranking) {
+    for &(weight, place) in ranked(record, report, &mut ranking) {
         if let (Outcome::Valued(value), portion) = &mut report.guarantees[place] {
             *portion = rest.min(*value);
             rest -= *portion;
@@ -131,14 +132,14 @@ fn cover(record: &Record, report: &mut Report) {
 /// Weight and place of each recognised guarantee by rising weight. The sort is
 /// stable, so equal weights stay in order of adding.
 fn ranked<'a>(
-    guarantees: &[Guarantee],
+    record: &Record,
     report: &Report,
     ranking: &'a mut [(u64, usize); LIST_LIMIT],
 ) -> &'a [(u64, usize)] {
     let mut recognised = 0;
-    for (place, item) in guarantees.iter().enumerate() {
+    for (place, item) in record.counted_guarantees().iter().enumerate() {
         if matches!(report.guarantees[place].0, Outcome::Valued(_)) {
-            ranking[recognised] = (provider_weight(item), place);
+            ranking[recognised] = (provider_weight(item, record.terms.edition), place);
             recognised += 1;
         }
     }

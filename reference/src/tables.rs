@@ -1,10 +1,12 @@
 //! Risk weights and standard supervisory haircuts
 //! (01: Risk weights in percent, Haircuts in millionths).
 
-/// Classes of counterparties and guarantors; 3 is a corporate or other entity.
+/// Classes of counterparties and guarantors; class 3 is a corporate among the
+/// former, an other entity among the latter.
 pub const SOVEREIGN: u64 = 1;
 pub const BANK: u64 = 2;
-pub const OTHER_ENTITY: u64 = 3;
+pub const CORPORATE: u64 = 3;
+pub const OTHER_ENTITY: u64 = CORPORATE;
 pub const RETAIL: u64 = 4;
 
 /// Goods types; 6, re-securitisation, has no haircut and so no name.
@@ -27,8 +29,14 @@ pub fn is_debt(goods: u64) -> bool {
     !matches!(goods, CASH | MAIN_INDEX_EQUITY | OTHER_EQUITY | GOLD)
 }
 
-/// Risk weight in percent of an accepted class and step, where step 0 is
-/// unrated (CRE20.4, CRE20.14 option 2, CRE20.17).
+/// Whether a party of the class sends the step of its sovereign of incorporation
+/// (02: L5).
+pub fn has_sovereign(class: u64) -> bool {
+    !matches!(class, SOVEREIGN | RETAIL)
+}
+
+/// Risk weight in percent of an accepted class and step by themselves, where
+/// step 0 is unrated (CRE20.4, CRE20.14 option 2, CRE20.17).
 pub fn risk_weight(class: u64, step: u64) -> u64 {
     match class {
         SOVEREIGN => match step {
@@ -126,6 +134,11 @@ mod tests {
             }
         }
         assert_eq!(risk_weight(RETAIL, 0), 75);
+    }
+
+    #[test]
+    fn banks_and_class_3_have_a_sovereign() {
+        assert_eq!([1, 2, 3, 4].map(has_sovereign), [false, true, true, false]);
     }
 
     #[test]

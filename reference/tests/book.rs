@@ -29,9 +29,14 @@ fn refusal(book: &[u8]) -> u64 {
     refusal
 }
 
-/// Refusal and line number of each deal of the lines behind a header.
+/// The four numbers of each deal of the lines behind a header of edition 1.
 fn answers(lines: &str) -> Vec<[u64; 4]> {
-    let book = format!("CRM\t1\n{lines}");
+    answers_under(1, lines)
+}
+
+/// The same behind the header of an edition.
+fn answers_under(edition: u64, lines: &str) -> Vec<[u64; 4]> {
+    let book = header(edition) + lines;
     let (reply, results) = answer_with(1_000, book.as_bytes());
     assert_eq!(reply.refusal, 0);
     results
@@ -49,7 +54,7 @@ fn c() -> String {
 }
 
 fn g() -> String {
-    guarantee_line(&GUARANTEE)
+    guarantee_line(&GUARANTEE, 1)
 }
 
 #[test]
@@ -61,8 +66,24 @@ fn refusal_9_wrong_first_line() {
         b"CRM\t1",
         b"CRM\t1\r\n",
         b"CRM 1\n",
-        b"CRM\t2\n",
+        b"CRM\t\n",
+        b"CRM\t0\n",
+        b"CRM\t3\n",
+        b"CRM\t9\n",
         b"CRM\t11\n",
+        b"CRM\t12\n",
+        b"CRM\t21\n",
+        b"CRM\t01\n",
+        b"CRM\t02\n",
+        b"CRM\t+2\n",
+        b"CRM\t1\t\n",
+        b"CRM\t2\t\n",
+        b"CRM\t2\t1\n",
+        b"CRM\t2",
+        b"CRM\t2\r\n",
+        b"CRM 2\n",
+        b"crm\t2\n",
+        b"CRM\tCRM\t2\n",
         b"crm\t1\n",
         b" CRM\t1\n",
         b"\nCRM\t1\n",
@@ -77,23 +98,28 @@ fn refusal_9_wrong_first_line() {
 fn refusal_10_comes_first() {
     assert_eq!(refusal(&vec![b'x'; 65_537]), 10);
     assert_eq!(refusal(&vec![b'x'; 65_536]), 9);
-    let mut book = format!("CRM\t1\n{}", d()).into_bytes();
-    book.resize(65_536, b'\n');
-    assert_eq!(refusal(&book), 0);
-    book.push(b'\n');
-    assert_eq!(refusal(&book), 10);
-    assert_eq!(printed(&book), b"REFUSED\t10\n");
+    for edition in EDITIONS {
+        let mut book = (header(edition) + &d()).into_bytes();
+        book.resize(65_536, b'\n');
+        assert_eq!(refusal(&book), 0);
+        book.push(b'\n');
+        assert_eq!(refusal(&book), 10);
+        assert_eq!(printed(&book), b"REFUSED\t10\n");
+    }
 }
 
 #[test]
 fn refusal_12_second_line_opens_no_deal() {
     for second in ["\n", "D", "D\n", "D 1\n", "d\t\n", "C\t1\n", "X", " D\t\n"] {
-        let book = format!("CRM\t1\n{second}");
-        assert_eq!(refusal(book.as_bytes()), 12, "{second:?}");
-        let book = format!("CRM\t1\n{second}\n{}", d());
-        assert_eq!(refusal(book.as_bytes()), 12, "{second:?}");
+        for header in EDITIONS.map(header) {
+            let book = format!("{header}{second}");
+            assert_eq!(refusal(book.as_bytes()), 12, "{book:?}");
+            let book = format!("{header}{second}\n{}", d());
+            assert_eq!(refusal(book.as_bytes()), 12, "{book:?}");
+        }
     }
     assert_eq!(answer_with(0, b"CRM\t1\nX\n").0.refusal, 12);
+    assert_eq!(printed(b"CRM\t2\nX\n"), b"REFUSED\t12\n");
     assert_eq!(printed(b"CRM\t1\n\n"), b"REFUSED\t12\n");
 }
 
@@ -117,18 +143,21 @@ fn refusal_13_room_for_every_deal() {
 
 #[test]
 fn a_header_alone_is_a_book_of_no_deals() {
-    for room in [0, 1, 4] {
-        let reply = answer_with(room, b"CRM\t1\n").0;
-        assert_eq!(
-            reply,
-            BookReply {
-                refusal: 0,
-                deals: 0
-            }
-        );
+    for header in EDITIONS.map(header) {
+        let book = header.as_bytes();
+        for room in [0, 1, 4] {
+            let reply = answer_with(room, book).0;
+            assert_eq!(
+                reply,
+                BookReply {
+                    refusal: 0,
+                    deals: 0
+                }
+            );
+        }
+        assert_eq!(printed(book), b"RESULT\t1\n");
+        assert_eq!(deals(book), Ok(Vec::new()));
     }
-    assert_eq!(printed(b"CRM\t1\n"), b"RESULT\t1\n");
-    assert_eq!(deals(b"CRM\t1\n"), Ok(Vec::new()));
 }
 
 #[test]
@@ -182,27 +211,28 @@ fn refusal_11_comes_before_the_operations_own() {
 #[test]
 fn thirteen_digits_reach_the_operation_uncut() {
     // 2^17 + 1, 2^32 + 1 and 2^40 + 1 would pass if cut to fewer bits.
-    for (place, refusal) in [
-        (1, 2),
-        (2, 3),
-        (3, 4),
-        (4, 2),
-        (5, 5),
-        (6, 5),
-        (7, 2),
-        (8, 3),
-        (9, 5),
-    ] {
-        for number in [
-            4_294_967_297,
-            4_294_967_296,
-            1_099_511_627_777,
-            131_073,
-            9_999_999_999_999,
-        ] {
-            let mut fields = terms_fields(&TERMS);
-            fields[place] = number;
-            assert_eq!(answers(&line('D', &fields)), [[1, refusal, 2, 0]]);
+    const LARGE: [u64; 5] = [
+        4_294_967_297,
+        4_294_967_296,
+        1_099_511_627_777,
+        131_073,
+        9_999_999_999_999,
+    ];
+    // The refusals of the fields behind the amount, under each edition.
+    let refusals = [
+        (1, &[2, 3, 4, 2, 5, 5, 2, 3, 5][..]),
+        (2, &[2, 3, 3, 4, 2, 5, 5, 2, 3, 5]),
+    ];
+    for (edition, refusals) in refusals {
+        let sound = sent_terms(&Terms { edition, ..TERMS });
+        assert_eq!(sound.len(), 1 + refusals.len());
+        for (place, &refusal) in (1..).zip(refusals) {
+            for number in LARGE {
+                let mut fields = sound.clone();
+                fields[place] = number;
+                let found = answers_under(edition, &line('D', &fields));
+                assert_eq!(found, [[1, refusal, 2, 0]], "{fields:?}");
+            }
         }
     }
 }
@@ -210,8 +240,8 @@ fn thirteen_digits_reach_the_operation_uncut() {
 #[test]
 fn odd_lines_belong_to_the_deal_above() {
     for odd in [
-        "\n", "D\n", "d\t1\n", "CRM\t1\n", "\t\n", "#\n", " D\t1\n", "\r\n", "C\n", "G\n", "C\t\n",
-        "DD\t1\n",
+        "\n", "D\n", "d\t1\n", "CRM\t1\n", "CRM\t2\n", "\t\n", "#\n", " D\t1\n", "\r\n", "C\n",
+        "G\n", "C\t\n", "DD\t1\n",
     ] {
         let lines = [d(), odd.into(), d()].concat();
         let found = answers(&lines);

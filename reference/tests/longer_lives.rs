@@ -74,8 +74,8 @@ impl Deal {
     fn book(&self) -> String {
         let d = terms_line(&self.terms);
         let c = collateral_line(&self.collateral);
-        let g = guarantee_line(&self.guarantee);
-        format!("CRM\t1\n{d}{c}{g}")
+        let g = guarantee_line(&self.guarantee, self.terms.edition);
+        format!("{}{d}{c}{g}", header(self.terms.edition))
     }
 
     fn longest(&self) -> u64 {
@@ -223,9 +223,9 @@ fn long_days_are_read_back_whole() {
             let lines = [
                 terms_line(&terms),
                 collateral_line(&item).repeat(16),
-                guarantee_line(&guarantee).repeat(16),
+                guarantee_line(&guarantee, terms.edition).repeat(16),
             ];
-            let book = format!("CRM\t1\n{}", lines.concat());
+            let book = header(terms.edition) + &lines.concat();
             let read = vec![DealRead::Accepted(Box::new(record))];
             assert_eq!(deals(book.as_bytes()), Ok(read), "{goods} {days}");
         }
@@ -349,10 +349,10 @@ fn goods_fit(goods: u64, step: u64, life: u64, longest: u64) -> (bool, bool) {
     }
 }
 
-/// Opening by document 01, with the limit of days left open.
-fn opening_by_01(t: &Terms, longest: u64) -> u64 {
+/// Opening by the papers, with the limit of days left open.
+fn opening_by_paper(t: &Terms, longest: u64) -> u64 {
     let (step_fits, life_fits) = goods_fit(t.lent_goods, t.lent_step, t.lent_life, longest);
-    let codes = [(t.class, 4), (t.kind, 3), (t.lent_goods, 9)];
+    let codes = [(t.edition, 2), (t.class, 4), (t.kind, 3), (t.lent_goods, 9)];
     let days = [(t.interval, 250), (t.residual, longest)];
     let within = |&(number, last): &(u64, u64)| (1..=last).contains(&number);
     let last_step = if t.class == 4 { 0 } else { 6 };
@@ -360,13 +360,14 @@ fn opening_by_01(t: &Terms, longest: u64) -> u64 {
         (1, t.amount <= AMOUNT_LIMIT),
         (2, codes.iter().all(within)),
         (3, t.step <= last_step && step_fits),
+        (3, sovereign_fits(t.class, t.sovereign_step)),
         (4, within(&(t.currency, 999))),
         (5, days.iter().all(within) && life_fits),
     ])
 }
 
 /// Adding to a list with a free place, in the same way.
-fn adding_collateral_by_01(c: &Collateral, longest: u64) -> u64 {
+fn adding_collateral_by_paper(c: &Collateral, longest: u64) -> u64 {
     let (step_fits, life_fits) = goods_fit(c.goods, c.step, c.life, longest);
     let term = 1..=longest;
     let conditions = [c.lawful, c.unrelated, c.unreflected, c.listed];
@@ -382,13 +383,13 @@ fn adding_collateral_by_01(c: &Collateral, longest: u64) -> u64 {
     ])
 }
 
-fn adding_a_guarantee_by_01(g: &Guarantee, longest: u64) -> u64 {
+fn adding_a_guarantee_by_paper(g: &Guarantee, longest: u64) -> u64 {
     let term = 1..=longest;
     let conditions = [g.lawful, g.direct, g.unreflected];
     first_unmet(&[
         (1, g.amount <= AMOUNT_LIMIT),
         (2, (1..=3).contains(&g.class)),
-        (3, g.step <= 6),
+        (3, g.step <= 6 && sovereign_fits(g.class, g.sovereign_step)),
         (4, (1..=999).contains(&g.currency)),
         (5, term.contains(&g.residual) && term.contains(&g.original)),
         (7, g.residual <= g.original),
@@ -396,11 +397,11 @@ fn adding_a_guarantee_by_01(g: &Guarantee, longest: u64) -> u64 {
     ])
 }
 
-fn refusal_by_01(deal: &Deal, longest: u64) -> u64 {
+fn refusal_by_paper(deal: &Deal, longest: u64) -> u64 {
     let refusals = [
-        opening_by_01(&deal.terms, longest),
-        adding_collateral_by_01(&deal.collateral, longest),
-        adding_a_guarantee_by_01(&deal.guarantee, longest),
+        opening_by_paper(&deal.terms, longest),
+        adding_collateral_by_paper(&deal.collateral, longest),
+        adding_a_guarantee_by_paper(&deal.guarantee, longest),
     ];
     let first = refusals.into_iter().find(|&refusal| refusal > 0);
     first.unwrap_or(0)
@@ -428,9 +429,9 @@ fn deals_without_longer_days_are_accepted_and_refused_as_before() {
     let (mut kept, mut still_refused, mut new) = (0, 0, 0);
     for _ in 0..ROUNDS {
         let deal = random_deal(&mut random);
-        let before = refusal_by_01(&deal, LONGEST_BEFORE);
+        let before = refusal_by_paper(&deal, LONGEST_BEFORE);
         let now = deal.refusal_by_operations();
-        assert_eq!(now, refusal_by_01(&deal, LONGEST), "{deal:?}");
+        assert_eq!(now, refusal_by_paper(&deal, LONGEST), "{deal:?}");
         if deal.longest() <= LONGEST_BEFORE {
             assert_eq!(now, before, "{deal:?}");
         }

@@ -70,22 +70,38 @@ fn edges_of_opening_a_loan() {
         (2, 6, 0),
         (2, 7, 3),
         (2, u64::MAX, 3),
-        (3, 0, 4),
-        (3, 1, 0),
-        (3, 999, 0),
-        (3, 1_000, 4),
-        (4, 0, 2),
+        (4, 0, 4),
         (4, 1, 0),
-        (4, 3, 0),
-        (4, 4, 2),
-        (7, 0, 2),
-        (7, 2, 5),
-        (7, 7, 0),
-        (7, 8, 0),
-        (7, 9, 0),
-        (7, 10, 2),
-        (8, 1, 3),
-        (9, 1, 5),
+        (4, 999, 0),
+        (4, 1_000, 4),
+        (5, 0, 2),
+        (5, 1, 0),
+        (5, 3, 0),
+        (5, 4, 2),
+        (8, 0, 2),
+        (8, 2, 5),
+        (8, 7, 0),
+        (8, 8, 0),
+        (8, 9, 0),
+        (8, 10, 2),
+        (9, 1, 3),
+        (10, 1, 5),
+    ];
+    assert_opening(&TERMS, edges);
+}
+
+#[test]
+fn edges_of_edition_and_sovereign_step() {
+    let edges: Edges = &[
+        (3, 0, 0),
+        (3, 6, 0),
+        (3, 7, 3),
+        (3, u64::MAX, 3),
+        (11, 0, 2),
+        (11, 1, 0),
+        (11, 2, 0),
+        (11, 3, 2),
+        (11, u64::MAX, 2),
     ];
     assert_opening(&TERMS, edges);
 }
@@ -93,15 +109,15 @@ fn edges_of_opening_a_loan() {
 #[test]
 fn edges_of_interval_and_term() {
     let edges: Edges = &[
-        (5, 0, 5),
-        (5, 1, 0),
-        (5, 250, 0),
-        (5, 251, 5),
         (6, 0, 5),
         (6, 1, 0),
-        (6, 100_000, 0),
-        (6, 100_001, 5),
-        (6, u64::MAX, 5),
+        (6, 250, 0),
+        (6, 251, 5),
+        (7, 0, 5),
+        (7, 1, 0),
+        (7, 100_000, 0),
+        (7, 100_001, 5),
+        (7, u64::MAX, 5),
     ];
     assert_opening(&TERMS, edges);
 }
@@ -116,13 +132,13 @@ fn edges_of_opening_with_debt_lent() {
             ..TERMS
         };
         let edges: Edges = &[
-            (8, 0, 0),
-            (8, 6, 0),
-            (8, 7, 3),
-            (9, 0, 5),
-            (9, 100_000, 0),
-            (9, 100_001, 5),
-            (9, u64::MAX, 5),
+            (9, 0, 0),
+            (9, 6, 0),
+            (9, 7, 3),
+            (10, 0, 5),
+            (10, 100_000, 0),
+            (10, 100_001, 5),
+            (10, u64::MAX, 5),
         ];
         assert_opening(&bond, edges);
     }
@@ -142,18 +158,20 @@ fn retail_has_step_0() {
 
 #[test]
 fn opening_gives_the_first_refusal() {
-    let mut fields = [u64::MAX; 10];
+    let mut fields = [u64::MAX; 12];
     for (place, sound, refusal) in [
         (0, 0, 1),
+        (11, 1, 2),
         (1, 4, 2),
-        (4, 1, 2),
-        (7, 1, 2),
+        (5, 1, 2),
+        (8, 1, 2),
         (2, 0, 3),
-        (8, 0, 3),
-        (3, 978, 4),
-        (5, 1, 5),
+        (3, 0, 3),
+        (9, 0, 3),
+        (4, 978, 4),
         (6, 1, 5),
-        (9, 0, 5),
+        (7, 1, 5),
+        (10, 0, 5),
     ] {
         assert_eq!(opening(Terms::from(fields)), refusal, "field {place}");
         fields[place] = sound;
@@ -273,29 +291,55 @@ fn edges_of_adding_a_guarantee() {
         (2, 0, 0),
         (2, 6, 0),
         (2, 7, 3),
-        (3, 0, 4),
-        (3, 999, 0),
-        (3, 1_000, 4),
-        (4, 0, 5),
-        (4, 1, 0),
-        (4, 1_801, 7),
-        (4, 100_000, 7),
-        (4, 100_001, 5),
+        (3, 1, 3),
+        (3, 7, 3),
+        (4, 0, 4),
+        (4, 999, 0),
+        (4, 1_000, 4),
         (5, 0, 5),
-        (5, 1_799, 7),
-        (5, 100_000, 0),
+        (5, 1, 0),
+        (5, 1_801, 7),
+        (5, 100_000, 7),
         (5, 100_001, 5),
-        (6, 0, 0),
-        (6, 2, 8),
+        (6, 0, 5),
+        (6, 1_799, 7),
+        (6, 100_000, 0),
+        (6, 100_001, 5),
         (7, 0, 0),
         (7, 2, 8),
         (8, 0, 0),
         (8, 2, 8),
+        (9, 0, 0),
+        (9, 2, 8),
     ];
     for edge in edges {
         let item = Guarantee::from(changed(guarantee_fields(&GUARANTEE), edge));
         assert_eq!(adding_guarantee(item), edge.2, "{edge:?}");
     }
+}
+
+#[test]
+fn adding_a_guarantee_gives_the_first_refusal() {
+    let mut fields = [u64::MAX; 10];
+    fields[6] = 0;
+    for (place, sound, refusal) in [
+        (0, 0, 1),
+        (1, 2, 2),
+        (2, 0, 3),
+        (3, 6, 3),
+        (4, 978, 4),
+        (6, 5, 5),
+        (5, 6, 5),
+        (5, 5, 7),
+        (7, 1, 8),
+        (8, 0, 8),
+        (9, 1, 8),
+    ] {
+        let item = Guarantee::from(fields);
+        assert_eq!(adding_guarantee(item), refusal, "field {place}");
+        fields[place] = sound;
+    }
+    assert_eq!(adding_guarantee(Guarantee::from(fields)), 0);
 }
 
 #[test]
@@ -377,7 +421,7 @@ fn counts_above_sixteen_are_40() {
 #[test]
 fn counted_fields_that_would_be_refused_are_40() {
     let sound = deal(TERMS, &[CASH; 3], &[GUARANTEE; 3]);
-    for place in 0..10 {
+    for place in 0..12 {
         let mut record = sound.clone();
         record.terms = Terms::from(changed(terms_fields(&TERMS), &(place, u64::MAX, 0)));
         assert!(is_40(&record), "terms {place}");
@@ -389,7 +433,7 @@ fn counted_fields_that_would_be_refused_are_40() {
             record.collateral[item] = Collateral::from(spoilt);
             assert_eq!(is_40(&record), item < 3, "collateral {item} {place}");
         }
-        for place in 0..9 {
+        for place in 0..10 {
             let mut record = sound.clone();
             let spoilt = changed(guarantee_fields(&GUARANTEE), &(place, u64::MAX, 0));
             record.guarantees[item] = Guarantee::from(spoilt);
@@ -419,11 +463,11 @@ fn an_empty_record_is_40() {
 #[test]
 fn the_largest_numbers_everywhere_are_40() {
     let record = Record {
-        terms: Terms::from([u64::MAX; 10]),
+        terms: Terms::from([u64::MAX; 12]),
         collateral_count: u64::MAX,
         collateral: [Collateral::from([u64::MAX; 11]); 16],
         guarantee_count: u64::MAX,
-        guarantees: [Guarantee::from([u64::MAX; 9]); 16],
+        guarantees: [Guarantee::from([u64::MAX; 10]); 16],
     };
     assert!(is_40(&record));
 }

@@ -28,6 +28,18 @@ fn weight(class: u64, step: u64) -> u64 {
     }
 }
 
+/// The weight of a class, step and sovereign's step, where edition 2 has a
+/// floor for the unrated of some classes.
+fn weight_with_floor(party: [u64; 3], floored: &[u64], edition: u64) -> u64 {
+    let [class, step, sovereign_step] = party;
+    let own = weight(class, step);
+    if edition == 2 && step == 0 && floored.contains(&class) {
+        own.max(weight(1, sovereign_step))
+    } else {
+        own
+    }
+}
+
 #[test]
 fn portions_and_rest_make_up_the_exposure() {
     let mut random = Random::new(1);
@@ -78,7 +90,7 @@ fn places_past_a_count_hold_zeros_and_have_no_effect() {
             *place = Collateral::from([random.any(); 11]);
         }
         for place in &mut filled.guarantees[record.guarantee_count as usize..] {
-            *place = Guarantee::from([random.any(); 9]);
+            *place = Guarantee::from([random.any(); 10]);
         }
         assert_eq!(report(&filled), first);
         for outcome in &first.collateral[record.collateral_count as usize..] {
@@ -92,6 +104,7 @@ fn places_past_a_count_hold_zeros_and_have_no_effect() {
 
 /// Covers by picking the least weight left, again and again.
 fn cover_by_picking(record: &Record, report: &Report) -> ([u64; 16], u64) {
+    let terms = &record.terms;
     let mut portions = [0; 16];
     let mut rest = report.exposure;
     let mut open: Vec<usize> = (0..16)
@@ -99,7 +112,8 @@ fn cover_by_picking(record: &Record, report: &Report) -> ([u64; 16], u64) {
         .collect();
     let weight_at = |place: usize| {
         let item = &record.guarantees[place];
-        weight(item.class, item.step)
+        let party = [item.class, item.step, item.sovereign_step];
+        weight_with_floor(party, &[2], terms.edition)
     };
     while let Some(&next) = open.iter().min_by_key(|&&place| (weight_at(place), place)) {
         open.retain(|&place| place != next);
@@ -110,7 +124,8 @@ fn cover_by_picking(record: &Record, report: &Report) -> ([u64; 16], u64) {
         .filter(|&place| portions[place] > 0)
         .map(|place| portions[place] * weight_at(place))
         .sum();
-    let counterparty = weight(record.terms.class, record.terms.step);
+    let party = [terms.class, terms.step, terms.sovereign_step];
+    let counterparty = weight_with_floor(party, &[2, 3], terms.edition);
     (portions, (weighted + rest * counterparty).div_ceil(100))
 }
 
@@ -279,13 +294,16 @@ fn wild_records_never_panic_and_answer_40_alike() {
         for _ in 0..random.within(0, 3) {
             let number = wild(&mut random);
             let place = random.within(0, 15) as usize;
-            match random.within(0, 6) {
+            match random.within(0, 9) {
                 0 => record.collateral_count = number,
                 1 => record.guarantee_count = number,
                 2 => record.terms.amount = number,
                 3 => record.terms.interval = number,
                 4 => record.collateral[place].residual = number,
                 5 => record.guarantees[place].original = number,
+                6 => record.terms.edition = number,
+                7 => record.terms.sovereign_step = number,
+                8 => record.guarantees[place].sovereign_step = number,
                 _ => record.terms.lent_goods = number,
             }
         }
@@ -303,12 +321,13 @@ fn wild_records_never_panic_and_answer_40_alike() {
     assert!(accepted > ROUNDS / 20);
 }
 
-/// A line of a random book: mostly sound, at times spoilt or cut.
-fn random_line(random: &mut Random, first: bool) -> String {
+/// A line of a random book of the edition: mostly sound, at times spoilt or cut.
+fn random_line(random: &mut Random, edition: u64, first: bool) -> String {
     let letter = if first { 0 } else { random.within(0, 5) };
     let mut text = match letter {
         0 => {
-            let mut fields = terms_fields(&random.terms());
+            let terms = random.terms();
+            let mut fields = sent_terms(&Terms { edition, ..terms });
             if random.chance(8) {
                 random.spoil(&mut fields);
             }
@@ -322,7 +341,7 @@ fn random_line(random: &mut Random, first: bool) -> String {
             line('C', &fields)
         }
         _ => {
-            let mut fields = guarantee_fields(&random.guarantee());
+            let mut fields = sent_guarantee(&random.guarantee(), edition);
             if random.chance(20) {
                 random.spoil(&mut fields);
             }
@@ -343,11 +362,12 @@ fn random_line(random: &mut Random, first: bool) -> String {
 }
 
 fn random_book(random: &mut Random) -> Vec<u8> {
+    let edition = random.edition();
     let lines = random.within(0, 60);
     let body: String = (0..lines)
-        .map(|place| random_line(random, place == 0))
+        .map(|place| random_line(random, edition, place == 0))
         .collect();
-    format!("CRM\t1\n{body}").into_bytes()
+    (header(edition) + &body).into_bytes()
 }
 
 /// Reads a field the plain way.
@@ -356,31 +376,48 @@ fn parsed(field: &str) -> Option<u64> {
     (field.len() <= 13 && field == number.to_string()).then_some(number)
 }
 
-fn fields<const N: usize>(line: &str, letter: &str) -> Option<[u64; N]> {
+fn fields(line: &str, letter: &str) -> Option<Vec<u64>> {
     let fields: Vec<&str> = line.strip_suffix('\n')?.split('\t').collect();
     let numbers: Option<Vec<u64>> = fields[1..].iter().map(|field| parsed(field)).collect();
     (fields[0] == letter).then_some(())?;
-    numbers?.try_into().ok()
+    numbers
+}
+
+/// The numbers of a D or G line, those of edition 1 with 0 behind the step.
+fn party_fields(line: &str, letter: &str, edition: u64) -> Option<Vec<u64>> {
+    let mut numbers = fields(line, letter)?;
+    if edition == 1 && numbers.len() > 3 {
+        numbers.insert(3, 0);
+    }
+    Some(numbers)
+}
+
+fn open_line(line: &str, edition: u64) -> Result<Record, u64> {
+    let mut numbers = party_fields(line, "D", edition).ok_or(11_u64)?;
+    numbers.push(edition);
+    let numbers: [u64; 12] = numbers.try_into().map_err(|_| 11_u64)?;
+    open(numbers.into())
 }
 
 fn add_line(record: &mut Record, line: &str) -> u64 {
-    if let Some(numbers) = fields::<11>(line, "C") {
-        add_collateral(record, numbers.into())
-    } else if let Some(numbers) = fields::<9>(line, "G") {
-        add_guarantee(record, numbers.into())
-    } else {
-        11
+    let collateral = fields(line, "C").and_then(|numbers| <[u64; 11]>::try_from(numbers).ok());
+    let guarantee = party_fields(line, "G", record.terms.edition)
+        .and_then(|numbers| <[u64; 10]>::try_from(numbers).ok());
+    match (collateral, guarantee) {
+        (Some(numbers), _) => add_collateral(record, numbers.into()),
+        (_, Some(numbers)) => add_guarantee(record, numbers.into()),
+        _ => 11,
     }
 }
 
 /// Goes line by line through opening, adding and reporting.
 fn line_by_line(book: &[u8]) -> Vec<u64> {
     let text = std::str::from_utf8(book).expect("plain text");
+    let edition = if text.starts_with("CRM\t1\n") { 1 } else { 2 };
     let mut found: Vec<Result<Record, (u64, u64)>> = Vec::new();
     for (number, line) in (1..).zip(text.split_inclusive('\n')).skip(1) {
         if line.starts_with("D\t") {
-            let terms = fields::<10>(line, "D").map(Terms::from).ok_or(11);
-            found.push(terms.and_then(open).map_err(|refusal| (refusal, number)));
+            found.push(open_line(line, edition).map_err(|refusal| (refusal, number)));
         } else if let Some(deal @ Ok(_)) = found.last_mut() {
             let refusal = deal.as_mut().map_or(0, |record| add_line(record, line));
             if refusal != 0 {
@@ -453,7 +490,7 @@ fn any_bytes_are_answered() {
     let mut random = Random::new(10);
     let alphabet = b"DCG\t\t\t\n\n0123456789\r \0\xff";
     for _ in 0..5_000 {
-        let mut book = b"CRM\t1\nD\t".to_vec();
+        let mut book = format!("{}D\t", header(random.edition())).into_bytes();
         book.truncate(random.pick(&[0, 6, 8, 8, 8]) as usize);
         for _ in 0..random.within(0, 300) {
             book.push(alphabet[random.within(0, alphabet.len() as u64 - 1) as usize]);

@@ -6,11 +6,14 @@ use reference::{
     add_collateral, add_guarantee, open, Collateral, Guarantee, Outcome, Record, Terms,
 };
 
+pub const EDITIONS: [u64; 2] = [1, 2];
+
 /// An unrated corporate's loan of cash for 1,800 days, revalued daily.
 pub const TERMS: Terms = Terms {
     amount: 1_000_000,
     class: 3,
     step: 0,
+    sovereign_step: 0,
     currency: 978,
     kind: 3,
     interval: 1,
@@ -18,6 +21,7 @@ pub const TERMS: Terms = Terms {
     lent_goods: 1,
     lent_step: 0,
     lent_life: 0,
+    edition: 1,
 };
 
 /// Cash in the deal's currency and for its whole term.
@@ -40,6 +44,7 @@ pub const GUARANTEE: Guarantee = Guarantee {
     amount: 1_000,
     class: 1,
     step: 1,
+    sovereign_step: 0,
     currency: 978,
     residual: 1_800,
     original: 1_800,
@@ -70,11 +75,12 @@ pub fn outcome_of_guarantee(terms: Terms, item: Guarantee) -> Outcome {
     reference::report(&deal(terms, &[], &[item])).guarantees[0].0
 }
 
-pub fn terms_fields(t: &Terms) -> [u64; 10] {
+pub fn terms_fields(t: &Terms) -> [u64; 12] {
     [
         t.amount,
         t.class,
         t.step,
+        t.sovereign_step,
         t.currency,
         t.kind,
         t.interval,
@@ -82,6 +88,7 @@ pub fn terms_fields(t: &Terms) -> [u64; 10] {
         t.lent_goods,
         t.lent_step,
         t.lent_life,
+        t.edition,
     ]
 }
 
@@ -101,11 +108,12 @@ pub fn collateral_fields(c: &Collateral) -> [u64; 11] {
     ]
 }
 
-pub fn guarantee_fields(g: &Guarantee) -> [u64; 9] {
+pub fn guarantee_fields(g: &Guarantee) -> [u64; 10] {
     [
         g.amount,
         g.class,
         g.step,
+        g.sovereign_step,
         g.currency,
         g.residual,
         g.original,
@@ -115,6 +123,39 @@ pub fn guarantee_fields(g: &Guarantee) -> [u64; 9] {
     ]
 }
 
+/// Whether the sovereign's step is accepted: 0 to 6 for class 2 and class 3, 0
+/// for the others.
+pub fn sovereign_fits(class: u64, sovereign_step: u64) -> bool {
+    match class {
+        2 | 3 => sovereign_step <= 6,
+        _ => sovereign_step == 0,
+    }
+}
+
+/// The numbers of a D line; the edition stands in the header.
+pub fn sent_terms(terms: &Terms) -> Vec<u64> {
+    let fields = terms_fields(terms);
+    sent(&fields[..fields.len() - 1], terms.edition)
+}
+
+/// The numbers of a G line in a book of the edition.
+pub fn sent_guarantee(item: &Guarantee, edition: u64) -> Vec<u64> {
+    sent(&guarantee_fields(item), edition)
+}
+
+/// Lines of edition 1 leave the sovereign's step out.
+fn sent(fields: &[u64], edition: u64) -> Vec<u64> {
+    let mut sent = fields.to_vec();
+    if edition == 1 {
+        sent.remove(3);
+    }
+    sent
+}
+
+pub fn header(edition: u64) -> String {
+    format!("CRM\t{edition}\n")
+}
+
 /// A line of the book with its line feed.
 pub fn line(letter: char, fields: &[u64]) -> String {
     let fields: String = fields.iter().map(|field| format!("\t{field}")).collect();
@@ -122,15 +163,15 @@ pub fn line(letter: char, fields: &[u64]) -> String {
 }
 
 pub fn terms_line(terms: &Terms) -> String {
-    line('D', &terms_fields(terms))
+    line('D', &sent_terms(terms))
 }
 
 pub fn collateral_line(item: &Collateral) -> String {
     line('C', &collateral_fields(item))
 }
 
-pub fn guarantee_line(item: &Guarantee) -> String {
-    line('G', &guarantee_fields(item))
+pub fn guarantee_line(item: &Guarantee, edition: u64) -> String {
+    line('G', &sent_guarantee(item, edition))
 }
 
 /// The paper shows tabs as spaces.
@@ -203,6 +244,18 @@ impl Random {
         u64::from(!self.chance(12))
     }
 
+    pub fn edition(&mut self) -> u64 {
+        self.pick(&EDITIONS)
+    }
+
+    /// A sovereign's step that fits the class.
+    fn sovereign_step(&mut self, class: u64) -> u64 {
+        match class {
+            2 | 3 => self.within(0, 6),
+            _ => 0,
+        }
+    }
+
     /// Type, step and issue life that fit each other.
     fn goods(&mut self) -> (u64, u64, u64) {
         let goods = self.within(1, 9);
@@ -226,6 +279,7 @@ impl Random {
             amount: self.amount(),
             class,
             step,
+            sovereign_step: self.sovereign_step(class),
             currency: self.currency(),
             kind: self.within(1, 3),
             interval: self.interval(),
@@ -233,6 +287,7 @@ impl Random {
             lent_goods,
             lent_step,
             lent_life,
+            edition: self.edition(),
         }
     }
 
@@ -256,10 +311,12 @@ impl Random {
 
     pub fn guarantee(&mut self) -> Guarantee {
         let (residual, original) = self.cover();
+        let class = self.within(1, 3);
         Guarantee {
             amount: self.amount(),
-            class: self.within(1, 3),
+            class,
             step: self.within(0, 6),
+            sovereign_step: self.sovereign_step(class),
             currency: self.currency(),
             residual,
             original,
