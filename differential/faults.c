@@ -1,13 +1,12 @@
-/* The proved library with one number spoiled or some days mistaken, chosen by
- * HADLEPHOGA_FAULT. The exact calls are the library's own, renamed by
- * differential/faults. */
-#include <stddef.h>
-#include <stdint.h>
+/* The proved library with one number spoiled, or with some days, a party or an
+ * edition mistaken, chosen by HADLEPHOGA_FAULT. The exact calls are the library's
+ * own, renamed by differential/faults. */
 #include <stdlib.h>
 #include <string.h>
 
-#include "hadlephoga.h"
+#include "faults.h"
 
+uint64_t exact_layout(void);
 uint64_t exact_answer_book(const uint8_t *book, size_t book_length,
                            uint64_t *results, size_t results_length,
                            uint64_t *deals);
@@ -20,11 +19,28 @@ uint64_t exact_add_guarantee(uint64_t *record, size_t record_length,
 uint64_t exact_report_deal(const uint64_t *record, size_t record_length,
                            uint64_t *report, size_t report_length);
 
-static int fault(const char *name)
+static const char *chosen(void)
 {
-  const char *chosen = getenv("HADLEPHOGA_FAULT");
+  static const char *name;
 
-  return chosen != NULL && strcmp(chosen, name) == 0;
+  if (name == NULL) {
+    const char *set = getenv("HADLEPHOGA_FAULT");
+
+    name = set == NULL ? "" : set;
+  }
+  return name;
+}
+
+int fault(const char *name)
+{
+  return strcmp(chosen(), name) == 0;
+}
+
+int fault_of(const char *of, const char *name)
+{
+  size_t length = strlen(of);
+
+  return strncmp(chosen(), of, length) == 0 && strcmp(chosen() + length, name) == 0;
 }
 
 /* The last deal's answer that is, or is not, a refusal. */
@@ -55,133 +71,75 @@ static void lower_last(uint64_t *first, size_t apart)
     }
 }
 
-/* A fault of one list, or of one field. */
-static int fault_of(const char *of, const char *name)
+/* Terms or an item as the library is to take them; another count of numbers is 11. */
+static const uint64_t *terms_taken(const uint64_t *terms, size_t length, struct hadlephoga_terms *copy)
 {
-  const char *chosen = getenv("HADLEPHOGA_FAULT");
-  size_t length = strlen(of);
-
-  return chosen != NULL && strncmp(chosen, of, length) == 0 && strcmp(chosen + length, name) == 0;
-}
-
-/* Days: the library is passed others than it was sent, so that it seems to cut
- * them to 16 bits, or to have a limit that is a day too low or too high. */
-
-#define DAYS_LIMIT 100000
-
-enum mistake { NONE, CUT, LOW, HIGH };
-
-static enum mistake mistake_of(const char *field)
-{
-  return fault_of(field, "-cut") ? CUT : fault_of(field, "-low") ? LOW : fault_of(field, "-high") ? HIGH : NONE;
-}
-
-static uint64_t mistaken(enum mistake mistake, uint64_t days)
-{
-  if (mistake == CUT)
-    return days & 0xFFFF;
-  if (mistake == LOW && days == DAYS_LIMIT)
-    return DAYS_LIMIT + 1;
-  if (mistake == HIGH && days == DAYS_LIMIT + 1)
-    return DAYS_LIMIT;
-  return days;
-}
-
-struct days_field {
-  const char *name;
-  size_t place;
-};
-
-#define PLACE(fields, field) (offsetof(struct hadlephoga_##fields, field) / sizeof(uint64_t))
-
-static const struct days_field terms_days[] = {
-    {"open-term", PLACE(terms, residual_term)},
-    {"open-life", PLACE(terms, lent_issue_life)},
-    {NULL, 0},
-};
-static const struct days_field collateral_days[] = {
-    {"collateral-life", PLACE(collateral, issue_life)},
-    {"collateral-residual", PLACE(collateral, residual_term)},
-    {"collateral-original", PLACE(collateral, original_term)},
-    {NULL, 0},
-};
-static const struct days_field guarantee_days[] = {
-    {"guarantee-residual", PLACE(guarantee, residual_term)},
-    {"guarantee-original", PLACE(guarantee, original_term)},
-    {NULL, 0},
-};
-
-/* Terms or an item, one of its fields mistaken; another count of numbers is 11. */
-static const uint64_t *fields_taken(const uint64_t *fields, size_t length, uint64_t *copy, size_t width,
-                                    const struct days_field *days)
-{
-  if (length != width)
-    return fields;
-  memcpy(copy, fields, width * sizeof *copy);
-  for (; days->name != NULL; days++)
-    copy[days->place] = mistaken(mistake_of(days->name), copy[days->place]);
-  return copy;
-}
-
-/* A record, the days of all its fields mistaken. */
-static const uint64_t *record_taken(const uint64_t *record, size_t length, struct hadlephoga_deal *copy)
-{
-  enum mistake mistake = mistake_of("report-days");
-
-  if (mistake == NONE || length != HADLEPHOGA_RECORD_LENGTH)
-    return record;
-  memcpy(copy, record, sizeof *copy);
-  copy->terms.residual_term = mistaken(mistake, copy->terms.residual_term);
-  copy->terms.lent_issue_life = mistaken(mistake, copy->terms.lent_issue_life);
-  for (size_t i = 0; i < HADLEPHOGA_ITEMS; i++) {
-    struct hadlephoga_collateral *collateral = &copy->collateral[i];
-    struct hadlephoga_guarantee *guarantee = &copy->guarantees[i];
-
-    collateral->issue_life = mistaken(mistake, collateral->issue_life);
-    collateral->residual_term = mistaken(mistake, collateral->residual_term);
-    collateral->original_term = mistaken(mistake, collateral->original_term);
-    guarantee->residual_term = mistaken(mistake, guarantee->residual_term);
-    guarantee->original_term = mistaken(mistake, guarantee->original_term);
-  }
+  if (length != HADLEPHOGA_TERMS_WIDTH)
+    return terms;
+  memcpy(copy, terms, sizeof *copy);
+  mistake_terms_days(copy);
+  mistake_terms_party(copy);
   return (const uint64_t *)copy;
 }
 
-/* A book, the days at the limit mistaken in every field but a line's last. An
- * amount of as many is mistaken too, but next to none is one. */
+static const uint64_t *collateral_taken(const uint64_t *item, size_t length, struct hadlephoga_collateral *copy)
+{
+  if (length != HADLEPHOGA_COLLATERAL_WIDTH)
+    return item;
+  memcpy(copy, item, sizeof *copy);
+  mistake_collateral_days(copy);
+  return (const uint64_t *)copy;
+}
+
+static const uint64_t *guarantee_taken(const uint64_t *item, size_t length, struct hadlephoga_guarantee *copy)
+{
+  if (length != HADLEPHOGA_GUARANTEE_WIDTH)
+    return item;
+  memcpy(copy, item, sizeof *copy);
+  mistake_guarantee_days(copy);
+  mistake_guarantee_party(copy);
+  return (const uint64_t *)copy;
+}
+
+static const uint64_t *record_taken(const uint64_t *record, size_t length, struct hadlephoga_deal *copy)
+{
+  if (length != HADLEPHOGA_RECORD_LENGTH)
+    return record;
+  memcpy(copy, record, sizeof *copy);
+  mistake_record_days(copy);
+  mistake_record_parties(copy);
+  return (const uint64_t *)copy;
+}
+
+static int headed(const uint8_t *book, size_t length, char edition)
+{
+  static const char before[] = "CRM\t";
+
+  return length >= 6 && memcmp(book, before, 4) == 0 && book[4] == (uint8_t)edition && book[5] == '\n';
+}
+
 static const uint8_t *book_taken(const uint8_t *book, size_t length, uint8_t *copy)
 {
-  enum mistake mistake = mistake_of("book-days");
-  const char *from = mistake == LOW ? "\t100000\t" : "\t100001\t";
-  const char *to = mistake == LOW ? "\t100001\t" : "\t100000\t";
-
-  if (mistake == NONE || length > HADLEPHOGA_BOOK_LIMIT)
+  if (length > HADLEPHOGA_BOOK_LIMIT)
     return book;
   memcpy(copy, book, length);
-  for (size_t at = 0; at + strlen(from) <= length; at++)
-    if (memcmp(copy + at, from, strlen(from)) == 0)
-      memcpy(copy + at, to, strlen(to));
+  if (fault("book-header-3") && headed(book, length, '3'))
+    copy[4] = '2';
+  mistake_book_days(copy, length);
+  mistake_book_parties(copy, length);
   return copy;
 }
 
-uint64_t hadlephoga_answer_book(const uint8_t *book, size_t book_length,
-                                uint64_t *results, size_t results_length,
-                                uint64_t *deals)
+uint64_t hadlephoga_layout(void)
 {
-  uint8_t copy[HADLEPHOGA_BOOK_LIMIT];
-  const uint8_t *taken = book_taken(book, book_length, copy);
-  uint64_t refusal = exact_answer_book(taken, book_length, results, results_length, deals);
-  uint64_t *accepted = last_answer(results, *deals, 0);
-  uint64_t *refused = last_answer(results, *deals, 1);
+  return exact_layout() + (uint64_t)fault("layout");
+}
 
-  if (refusal != 0) {
-    if (fault("book-refusal") && refusal == 13)
-      return 12;
-    if (fault("book-refused-count"))
-      *deals = 1;
-    if (fault("book-refused-list") && results_length > 0)
-      results[0] = 0;
-    return refusal;
-  }
+static void spoil_answers(uint64_t *results, uint64_t deals)
+{
+  uint64_t *accepted = last_answer(results, deals, 0);
+  uint64_t *refused = last_answer(results, deals, 1);
+
   if (accepted != NULL && fault("book-serial"))
     accepted[0] += 1;
   if (accepted != NULL && fault("book-exposure"))
@@ -192,6 +150,30 @@ uint64_t hadlephoga_answer_book(const uint8_t *book, size_t book_length,
     refused[1] = refused[1] == 11 ? 2 : 11;
   if (refused != NULL && fault("book-line-number"))
     refused[2] += 1;
+}
+
+uint64_t hadlephoga_answer_book(const uint8_t *book, size_t book_length,
+                                uint64_t *results, size_t results_length,
+                                uint64_t *deals)
+{
+  uint8_t copy[HADLEPHOGA_BOOK_LIMIT];
+  const uint8_t *taken = book_taken(book, book_length, copy);
+  uint64_t refusal;
+
+  *deals = 0;
+  if (fault("book-header-2") && headed(book, book_length, '2'))
+    return 9;
+  refusal = exact_answer_book(taken, book_length, results, results_length, deals);
+  if (refusal != 0) {
+    if (fault("book-refusal") && refusal == 13)
+      return 12;
+    if (fault("book-refused-count"))
+      *deals = 1;
+    if (fault("book-refused-list") && results_length > 0)
+      results[0] = 0;
+    return refusal;
+  }
+  spoil_answers(results, *deals);
   if (fault("book-behind-answers") && results_length / HADLEPHOGA_ANSWER_LENGTH > *deals)
     results[*deals * HADLEPHOGA_ANSWER_LENGTH] = 0;
   /* Outside the list, where the comparison has its margin. */
@@ -205,8 +187,8 @@ uint64_t hadlephoga_answer_book(const uint8_t *book, size_t book_length,
 uint64_t hadlephoga_open_deal(const uint64_t *terms, size_t terms_length,
                               uint64_t *record, size_t record_length)
 {
-  uint64_t copy[HADLEPHOGA_TERMS_WIDTH];
-  const uint64_t *taken = fields_taken(terms, terms_length, copy, HADLEPHOGA_TERMS_WIDTH, terms_days);
+  struct hadlephoga_terms copy;
+  const uint64_t *taken = terms_taken(terms, terms_length, &copy);
   uint64_t refusal = exact_open_deal(taken, terms_length, record, record_length);
 
   if (fault("open-behind-list"))
@@ -253,23 +235,45 @@ static uint64_t added(const char *list, uint64_t refusal, uint64_t *record, size
   return 0;
 }
 
+/* The record's edition is mistaken while an item is added, and then put back. */
+static uint64_t put_edition(const char *list, uint64_t *record, size_t length)
+{
+  uint64_t edition = 0;
+
+  if (length == HADLEPHOGA_RECORD_LENGTH) {
+    edition = record[HADLEPHOGA_TERMS_WIDTH - 1];
+    record[HADLEPHOGA_TERMS_WIDTH - 1] = mistaken_edition(list, edition);
+  }
+  return edition;
+}
+
+static void put_back(uint64_t *record, size_t length, uint64_t edition)
+{
+  if (length == HADLEPHOGA_RECORD_LENGTH)
+    record[HADLEPHOGA_TERMS_WIDTH - 1] = edition;
+}
+
 uint64_t hadlephoga_add_collateral(uint64_t *record, size_t record_length,
                                    const uint64_t *item, size_t item_length)
 {
-  uint64_t copy[HADLEPHOGA_COLLATERAL_WIDTH];
-  const uint64_t *taken = fields_taken(item, item_length, copy, HADLEPHOGA_COLLATERAL_WIDTH, collateral_days);
+  struct hadlephoga_collateral copy;
+  const uint64_t *taken = collateral_taken(item, item_length, &copy);
+  uint64_t edition = put_edition("collateral", record, record_length);
   uint64_t refusal = exact_add_collateral(record, record_length, taken, item_length);
 
+  put_back(record, record_length, edition);
   return added("collateral", refusal, record, record_length, HADLEPHOGA_TERMS_WIDTH, HADLEPHOGA_COLLATERAL_WIDTH);
 }
 
 uint64_t hadlephoga_add_guarantee(uint64_t *record, size_t record_length,
                                   const uint64_t *item, size_t item_length)
 {
-  uint64_t copy[HADLEPHOGA_GUARANTEE_WIDTH];
-  const uint64_t *taken = fields_taken(item, item_length, copy, HADLEPHOGA_GUARANTEE_WIDTH, guarantee_days);
+  struct hadlephoga_guarantee copy;
+  const uint64_t *taken = guarantee_taken(item, item_length, &copy);
+  uint64_t edition = put_edition("guarantee", record, record_length);
   uint64_t refusal = exact_add_guarantee(record, record_length, taken, item_length);
 
+  put_back(record, record_length, edition);
   return added("guarantee", refusal, record, record_length,
                HADLEPHOGA_RECORD_LENGTH - HADLEPHOGA_ITEMS * HADLEPHOGA_GUARANTEE_WIDTH - 1,
                HADLEPHOGA_GUARANTEE_WIDTH);

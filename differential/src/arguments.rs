@@ -2,14 +2,15 @@
 
 use std::path::PathBuf;
 
+use crate::heading::EDITIONS;
 use crate::sides::{Side, SIDES};
 
 pub const USAGE: &str = "\
 usage: differential [--seed S] [--deals N] [--seconds T] [--require-all]
        differential --seed S --book K
        differential conformance DIR
-       differential bench [--rounds R]
-       differential books DIR
+       differential bench [--rounds R] [--headed 1|2]
+       differential books DIR [--headed 1|2]
        differential once proved|reference FILE N";
 
 const SEED: u64 = 1;
@@ -26,8 +27,12 @@ pub enum Command {
     Conformance(PathBuf),
     Bench {
         rounds: u64,
+        editions: Vec<u64>,
     },
-    Books(PathBuf),
+    Books {
+        folder: PathBuf,
+        editions: Vec<u64>,
+    },
     Once {
         side: Side,
         book: PathBuf,
@@ -49,12 +54,9 @@ pub fn command(arguments: &[String]) -> Option<Command> {
     let arguments: Vec<&str> = arguments.iter().map(String::as_str).collect();
     match arguments[..] {
         ["conformance", folder] => Some(Command::Conformance(folder.into())),
-        ["books", folder] => Some(Command::Books(folder.into())),
-        ["bench"] => Some(Command::Bench { rounds: ROUNDS }),
-        ["bench", "--rounds", rounds] => {
-            let rounds = rounds.parse().ok().filter(|rounds| *rounds > 0)?;
-            Some(Command::Bench { rounds })
-        }
+        ["books", folder] => books(folder, EDITIONS.to_vec()),
+        ["books", folder, "--headed", edition] => books(folder, headed(edition)?),
+        ["bench", ref options @ ..] => bench(options),
         ["once", side, book, calls] => Some(Command::Once {
             side: SIDES.into_iter().find(|known| known.name() == side)?,
             book: book.into(),
@@ -62,6 +64,29 @@ pub fn command(arguments: &[String]) -> Option<Command> {
         }),
         _ => run(&arguments),
     }
+}
+
+/// The books under both headers, or under one.
+fn headed(edition: &str) -> Option<Vec<u64>> {
+    let edition = edition.parse().ok()?;
+    EDITIONS.contains(&edition).then(|| vec![edition])
+}
+
+fn books(folder: &str, editions: Vec<u64>) -> Option<Command> {
+    let folder = folder.into();
+    Some(Command::Books { folder, editions })
+}
+
+fn bench(options: &[&str]) -> Option<Command> {
+    let (mut rounds, mut editions) = (ROUNDS, EDITIONS.to_vec());
+    for option in options.chunks(2) {
+        match *option {
+            ["--rounds", of] => rounds = of.parse().ok().filter(|rounds| *rounds > 0)?,
+            ["--headed", edition] => editions = headed(edition)?,
+            _ => return None,
+        }
+    }
+    Some(Command::Bench { rounds, editions })
 }
 
 fn run(arguments: &[&str]) -> Option<Command> {
@@ -135,16 +160,32 @@ mod tests {
             parsed("--seed 7 --book 3"),
             Some(Command::OneBook { seed: 7, book: 3 })
         );
-        assert_eq!(
-            parsed("bench --rounds 5"),
-            Some(Command::Bench { rounds: 5 })
-        );
+        for wrong in ["--seed", "--seed x", "once both a 1", "conformance"] {
+            assert_eq!(parsed(wrong), None);
+        }
+    }
+
+    #[test]
+    fn measuring() {
+        let bench = |rounds, editions: &[u64]| {
+            let editions = editions.to_vec();
+            Some(Command::Bench { rounds, editions })
+        };
+        assert_eq!(parsed("bench"), bench(ROUNDS, &[1, 2]));
+        assert_eq!(parsed("bench --rounds 5"), bench(5, &[1, 2]));
+        assert_eq!(parsed("bench --headed 1 --rounds 5"), bench(5, &[1]));
+        let books = |editions: &[u64]| {
+            let (folder, editions) = ("a".into(), editions.to_vec());
+            Some(Command::Books { folder, editions })
+        };
+        assert_eq!(parsed("books a"), books(&[1, 2]));
+        assert_eq!(parsed("books a --headed 2"), books(&[2]));
         for wrong in [
-            "--seed",
-            "--seed x",
-            "once both a 1",
-            "conformance",
             "bench --rounds 0",
+            "bench --rounds",
+            "bench --headed 3",
+            "books a --headed x",
+            "books",
         ] {
             assert_eq!(parsed(wrong), None);
         }

@@ -4,7 +4,7 @@ use std::hint::black_box;
 use std::time::{Duration, Instant};
 
 use crate::measured::answer;
-use crate::shapes::{self, Measured};
+use crate::shapes::{self, Books, Measured};
 use crate::sides::{Side, SIDES};
 use crate::table::grouped;
 
@@ -17,60 +17,92 @@ struct Times {
     reference: f64,
 }
 
-pub fn run(rounds: u64) -> Result<(), String> {
+/// Measures the books under each of these headers.
+pub fn run(rounds: u64, editions: &[u64]) -> Result<(), String> {
     println!(
-        "Time of answering a book: the median of {rounds} rounds; in each round both are timed,"
+        "Time of answering a book: the median of {rounds} rounds; in each round both are timed"
     );
     println!(
-        "one behind the other. Each has a results list of its own, filled once before all calls."
+        "on a kind of book under each header, one behind the other. Each has a results list of"
     );
+    println!("its own, filled once before all calls. The last column has the time of the proved");
+    println!("library beside its time for the same deals under the first header measured.");
     println!();
     println!(
-        "{:<24}{:>8}{:>8}{:>8}{:>14}{:>14}{:>9}",
-        "full book of", "bytes", "deals", "items", "proved ns", "reference ns", "ratio"
+        "{:<24}{:>7}{:>8}{:>7}{:>7}{:>14}{:>14}{:>7}{:>10}",
+        "full book of",
+        "headed",
+        "bytes",
+        "deals",
+        "items",
+        "proved ns",
+        "reference ns",
+        "ratio",
+        "headers"
     );
-    for book in shapes::full() {
-        let times = timed(&book, rounds)?;
-        println!(
-            "{:<24}{:>8}{:>8}{:>8}{:>14}{:>14}{:>9.2}",
-            book.name,
-            book.book.len(),
-            book.deals,
-            book.items,
-            whole(times.proved),
-            whole(times.reference),
-            times.proved / times.reference
-        );
+    for books in shapes::full(editions) {
+        full(&books, rounds)?;
     }
     println!();
     println!("By count of deals, each with one item of collateral and one guarantee");
-    growth(&shapes::by_deals(), rounds)?;
+    growth(&shapes::by_deals(editions), rounds)?;
     println!();
     println!(
         "By count of items, half of them guarantees, in {} deals",
         shapes::DEALS_BY_ITEMS
     );
-    growth(&shapes::by_items(), rounds)
+    growth(&shapes::by_items(editions), rounds)
 }
 
-fn growth(books: &[Measured], rounds: u64) -> Result<(), String> {
-    println!(
-        "{:>8}{:>8}{:>14}{:>14}{:>16}{:>19}{:>9}",
-        "deals", "items", "proved ns", "reference ns", "proved a deal", "reference a deal", "ratio"
-    );
-    for book in books {
-        let times = timed(book, rounds)?;
-        let deals = book.deals as f64;
+fn full(books: &Books, rounds: u64) -> Result<(), String> {
+    let all = timed(books, rounds)?;
+    for (book, times) in books.iter().zip(&all) {
         println!(
-            "{:>8}{:>8}{:>14}{:>14}{:>16.1}{:>19.1}{:>9.2}",
+            "{:<24}{:>7}{:>8}{:>7}{:>7}{:>14}{:>14}{:>7.2}{:>10.3}",
+            book.name,
+            book.edition,
+            book.book.len(),
             book.deals,
             book.items,
             whole(times.proved),
             whole(times.reference),
-            times.proved / deals,
-            times.reference / deals,
-            times.proved / times.reference
+            times.proved / times.reference,
+            times.proved / all[0].proved
         );
+    }
+    Ok(())
+}
+
+fn growth(sizes: &[Books], rounds: u64) -> Result<(), String> {
+    println!(
+        "{:>7}{:>7}{:>7}{:>14}{:>14}{:>15}{:>18}{:>7}{:>10}",
+        "headed",
+        "deals",
+        "items",
+        "proved ns",
+        "reference ns",
+        "proved a deal",
+        "reference a deal",
+        "ratio",
+        "headers"
+    );
+    for books in sizes {
+        let all = timed(books, rounds)?;
+        for (book, times) in books.iter().zip(&all) {
+            let deals = book.deals as f64;
+            println!(
+                "{:>7}{:>7}{:>7}{:>14}{:>14}{:>15.1}{:>18.1}{:>7.2}{:>10.3}",
+                book.edition,
+                book.deals,
+                book.items,
+                whole(times.proved),
+                whole(times.reference),
+                times.proved / deals,
+                times.reference / deals,
+                times.proved / times.reference,
+                times.proved / all[0].proved
+            );
+        }
     }
     Ok(())
 }
@@ -79,67 +111,77 @@ fn whole(nanoseconds: f64) -> String {
     grouped(nanoseconds.round() as u64)
 }
 
-fn timed(measured: &Measured, rounds: u64) -> Result<Times, String> {
-    let book = &measured.book;
-    let lists = SIDES.map(|side| {
-        let mut results = vec![u64::MAX; measured.deals * 4];
-        let reply = answer(side, book, &mut results);
-        (reply, results)
+/// A book through one implementation, with a results list of its own.
+struct Timing<'a> {
+    side: Side,
+    book: &'a [u8],
+    results: Vec<u64>,
+    /// How many calls make up a timing.
+    calls: u64,
+    times: Vec<f64>,
+}
+
+impl<'a> Timing<'a> {
+    fn new(side: Side, measured: &'a Measured) -> Self {
+        Timing {
+            side,
+            book: &measured.book,
+            results: vec![u64::MAX; measured.deals * 4],
+            calls: 1,
+            times: Vec::new(),
+        }
+    }
+
+    /// Nanoseconds a call.
+    fn per_call(&mut self) -> f64 {
+        let start = Instant::now();
+        for _ in 0..self.calls {
+            black_box(answer(self.side, self.book, &mut self.results));
+        }
+        start.elapsed().as_nanos() as f64 / self.calls as f64
+    }
+
+    fn set_calls(&mut self) {
+        while self.per_call() * (self.calls as f64) < TIMING.as_nanos() as f64 {
+            self.calls *= 2;
+        }
+    }
+}
+
+/// Times of one kind of book, under each header. All of them are timed in each
+/// round, so that a busy machine slows them alike.
+fn timed(books: &Books, rounds: u64) -> Result<Vec<Times>, String> {
+    let mut timings = Vec::new();
+    for book in books {
+        timings.extend(checked(book)?);
+    }
+    timings.iter_mut().for_each(Timing::set_calls);
+    for round in 0..rounds as usize {
+        for turn in 0..timings.len() {
+            // None is always the first.
+            let next = (round + turn) % timings.len();
+            let time = timings[next].per_call();
+            timings[next].times.push(time);
+        }
+    }
+    let mut medians = timings.into_iter().map(|timing| median(timing.times));
+    let times = books.iter().map(|_| Times {
+        proved: medians.next().unwrap_or(f64::NAN),
+        reference: medians.next().unwrap_or(f64::NAN),
     });
-    if lists[0] != lists[1] {
-        return Err(format!(
-            "the two answer the book {} differently",
-            measured.name
-        ));
-    }
-    let [(_, mut proved_list), (_, mut reference_list)] = lists;
-    let calls = SIDES.map(|side| calls(side, book, &mut proved_list));
-    let (mut proved, mut reference) = (Vec::new(), Vec::new());
-    for round in 0..rounds {
-        let mut time_proved = || {
-            proved.push(per_book(Side::Proved, book, &mut proved_list, calls[0]));
-        };
-        let mut time_reference = || {
-            reference.push(per_book(
-                Side::Reference,
-                book,
-                &mut reference_list,
-                calls[1],
-            ));
-        };
-        // Neither is always the first.
-        if round % 2 == 0 {
-            time_proved();
-            time_reference();
-        } else {
-            time_reference();
-            time_proved();
-        }
-    }
-    Ok(Times {
-        proved: median(proved),
-        reference: median(reference),
-    })
+    Ok(times.collect())
 }
 
-/// How many calls make up a timing.
-fn calls(side: Side, book: &[u8], results: &mut [u64]) -> u64 {
-    let mut calls = 1;
-    loop {
-        let nanoseconds = per_book(side, book, results, calls) * calls as f64;
-        if nanoseconds >= TIMING.as_nanos() as f64 {
-            return calls;
-        }
-        calls *= 2;
+/// Both implementations on a book, which they answer alike.
+fn checked(book: &Measured) -> Result<[Timing<'_>; 2], String> {
+    let mut timings = SIDES.map(|side| Timing::new(side, book));
+    let replies = timings
+        .each_mut()
+        .map(|timing| answer(timing.side, timing.book, &mut timing.results));
+    match replies[0] == replies[1] && timings[0].results == timings[1].results {
+        true => Ok(timings),
+        false => Err(format!("the two answer the book {} differently", book.name)),
     }
-}
-
-fn per_book(side: Side, book: &[u8], results: &mut [u64], calls: u64) -> f64 {
-    let start = Instant::now();
-    for _ in 0..calls {
-        black_box(answer(side, book, results));
-    }
-    start.elapsed().as_nanos() as f64 / calls as f64
 }
 
 fn median(mut times: Vec<f64>) -> f64 {

@@ -4,15 +4,21 @@ use hadlephoga::BOOK_LIMIT;
 
 use crate::damage::damage;
 use crate::deal::{deal, deal_with};
-use crate::line::{Line, HEADER};
+use crate::first_lines::no_header;
+use crate::heading::{header, other, HEADER_LENGTH};
+use crate::line::Line;
 use crate::malformed::{malform, NEAR};
 use crate::outside::put_outside;
 use crate::random::Random;
+use crate::unrated::unrate;
+use crate::values;
 
 #[derive(Clone, Copy, Debug, PartialEq, Eq, Hash)]
 pub enum Kind {
     /// Every line is accepted.
     Valid,
+    /// Every line is accepted, and most parties are unrated.
+    Unrated,
     /// Fields just outside their ranges.
     Outside,
     /// Lines that cannot be read.
@@ -26,13 +32,16 @@ pub enum Kind {
     /// As many deals as a book can hold, each of a few bytes.
     ManyDeals,
     WrongHeader,
+    /// Lines of one header under the other.
+    OtherHeader,
     WrongSecondLine,
     /// Bytes without any order, or without much.
     Bytes,
 }
 
 const KINDS: &[(u64, Kind)] = &[
-    (3500, Kind::Valid),
+    (3000, Kind::Valid),
+    (1500, Kind::Unrated),
     (2000, Kind::Outside),
     (1500, Kind::Malformed),
     (1300, Kind::Damaged),
@@ -41,6 +50,7 @@ const KINDS: &[(u64, Kind)] = &[
     // Thousands of deals each, so few books.
     (3, Kind::ManyDeals),
     (400, Kind::WrongHeader),
+    (100, Kind::OtherHeader),
     (400, Kind::WrongSecondLine),
     (300, Kind::Bytes),
 ];
@@ -49,6 +59,7 @@ impl Kind {
     pub fn name(self) -> &'static str {
         match self {
             Kind::Valid => "valid",
+            Kind::Unrated => "valid, most parties unrated",
             Kind::Outside => "fields outside their ranges",
             Kind::Malformed => "malformed lines",
             Kind::Damaged => "damaged bytes",
@@ -56,6 +67,7 @@ impl Kind {
             Kind::Large => "close to 65,536 bytes",
             Kind::ManyDeals => "thousands of deals",
             Kind::WrongHeader => "wrong header",
+            Kind::OtherHeader => "lines of the other header",
             Kind::WrongSecondLine => "wrong second line",
             Kind::Bytes => "random bytes",
         }
@@ -71,49 +83,67 @@ pub struct Book {
 /// at the limits of size, so that a short run meets them too.
 pub fn book(seed: u64, number: u64) -> Book {
     let random = &mut Random::new(seed, number);
+    let edition = values::edition(random);
     let (kind, bytes) = match number {
         0..=2 => {
-            let mut book = overlong(random).0;
+            let mut book = overlong(random, edition).0;
             book.truncate(BOOK_LIMIT - 1 + number as usize);
             (Kind::Large, book)
         }
-        3..=5 => (Kind::ManyDeals, short_deals(random, 2044 + number as usize)),
+        3..=5 => {
+            let deals = 2044 + number as usize;
+            (Kind::ManyDeals, short_deals(random, edition, deals))
+        }
         _ => {
             let kind = random.weighted(KINDS);
-            (kind, of_kind(kind, random))
+            (kind, of_kind(kind, random, edition))
         }
     };
     Book { kind, bytes }
 }
 
-fn of_kind(kind: Kind, random: &mut Random) -> Vec<u8> {
+fn of_kind(kind: Kind, random: &mut Random, edition: u64) -> Vec<u8> {
     match kind {
-        Kind::Valid => valid(random),
-        Kind::Outside => outside(random),
-        Kind::Malformed => with_malformed_lines(random),
-        Kind::Damaged => damaged(random),
-        Kind::FullLists => full_lists(random),
-        Kind::Large => large(random),
-        Kind::ManyDeals => many_deals(random),
-        Kind::WrongHeader => wrong_header(random),
-        Kind::WrongSecondLine => wrong_second_line(random),
-        Kind::Bytes => bytes(random),
+        Kind::Valid => valid(random, edition),
+        Kind::Unrated => unrated(random, edition),
+        Kind::Outside => outside(random, edition),
+        Kind::Malformed => with_malformed_lines(random, edition),
+        Kind::Damaged => damaged(random, edition),
+        Kind::FullLists => full_lists(random, edition),
+        Kind::Large => large(random, edition),
+        Kind::ManyDeals => many_deals(random, edition),
+        Kind::WrongHeader => wrong_header(random, edition),
+        Kind::OtherHeader => other_header(random, edition),
+        Kind::WrongSecondLine => wrong_second_line(random, edition),
+        Kind::Bytes => bytes(random, edition),
     }
 }
 
-fn some_deals(random: &mut Random) -> Vec<Vec<Line>> {
+fn some_deals(random: &mut Random, edition: u64) -> Vec<Vec<Line>> {
     let deals = random.weighted(&[(1, 0), (10, 1), (20, 3), (40, 8), (20, 16), (2, 60)]);
-    (0..deals).map(|_| deal(random)).collect()
+    (0..deals).map(|_| deal(random, edition)).collect()
 }
 
-fn written<'a>(lines: impl IntoIterator<Item = &'a Line>) -> Vec<u8> {
-    let mut book = HEADER.to_vec();
-    book.extend(lines.into_iter().flat_map(Line::text));
+fn texts(edition: u64, deal: &[Line]) -> Vec<Vec<u8>> {
+    deal.iter().map(|line| line.text(edition)).collect()
+}
+
+fn written<'a>(edition: u64, lines: impl IntoIterator<Item = &'a Line>) -> Vec<u8> {
+    let mut book = header(edition).to_vec();
+    book.extend(lines.into_iter().flat_map(|line| line.text(edition)));
     book
 }
 
-fn valid(random: &mut Random) -> Vec<u8> {
-    written(some_deals(random).iter().flatten())
+fn valid(random: &mut Random, edition: u64) -> Vec<u8> {
+    written(edition, some_deals(random, edition).iter().flatten())
+}
+
+fn unrated(random: &mut Random, edition: u64) -> Vec<u8> {
+    let mut deals = some_deals(random, edition);
+    for deal in &mut deals {
+        unrate(random, deal);
+    }
+    written(edition, deals.iter().flatten())
 }
 
 /// Which lines of a deal to spoil: none in half of the deals, at most two.
@@ -127,19 +157,19 @@ fn lines_to_spoil(random: &mut Random, deal: &[Line]) -> Vec<usize> {
     }
 }
 
-fn outside(random: &mut Random) -> Vec<u8> {
-    let mut deals = some_deals(random);
+fn outside(random: &mut Random, edition: u64) -> Vec<u8> {
+    let mut deals = some_deals(random, edition);
     for deal in &mut deals {
         for place in lines_to_spoil(random, deal) {
             put_outside(random, &mut deal[place]);
         }
     }
-    written(deals.iter().flatten())
+    written(edition, deals.iter().flatten())
 }
 
-fn with_malformed_lines(random: &mut Random) -> Vec<u8> {
-    let mut book = HEADER.to_vec();
-    for mut deal in some_deals(random) {
+fn with_malformed_lines(random: &mut Random, edition: u64) -> Vec<u8> {
+    let mut book = header(edition).to_vec();
+    for mut deal in some_deals(random, edition) {
         let spoilt = lines_to_spoil(random, &deal);
         // 11 comes before the line's own refusals.
         for place in &spoilt {
@@ -148,9 +178,12 @@ fn with_malformed_lines(random: &mut Random) -> Vec<u8> {
             }
         }
         for (place, line) in deal.iter().enumerate() {
-            let mut text = line.text();
+            let mut text = line.text(edition);
             if spoilt.contains(&place) {
-                malform(random, &mut text);
+                match random.percent(10) {
+                    true => text = line.text(other(edition)),
+                    false => malform(random, &mut text),
+                }
             }
             book.extend(text);
         }
@@ -158,27 +191,27 @@ fn with_malformed_lines(random: &mut Random) -> Vec<u8> {
     book
 }
 
-fn damaged(random: &mut Random) -> Vec<u8> {
-    let mut book = valid(random);
+fn damaged(random: &mut Random, edition: u64) -> Vec<u8> {
+    let mut book = valid(random, edition);
     for _ in 0..random.between(1, 5) {
         damage(random, &mut book);
     }
     book
 }
 
-fn full_lists(random: &mut Random) -> Vec<u8> {
-    let mut book = HEADER.to_vec();
+fn full_lists(random: &mut Random, edition: u64) -> Vec<u8> {
+    let mut book = header(edition).to_vec();
     for _ in 0..random.between(1, 5) {
         let lengths = &[(1, 0), (1, 3), (1, 15), (3, 16), (3, 17), (1, 18)];
         let (collateral, guarantees) = (random.weighted(lengths), random.weighted(lengths));
-        let mut deal = deal_with(random, collateral, guarantees);
+        let mut deal = deal_with(random, edition, collateral, guarantees);
         // A seventeenth item is 6 whatever is wrong with its numbers, and 11
         // where it cannot be read.
         let last = deal.len() - 1;
         if random.percent(20) {
             put_outside(random, &mut deal[last]);
         }
-        let mut texts: Vec<Vec<u8>> = deal.iter().map(Line::text).collect();
+        let mut texts = texts(edition, &deal);
         if random.percent(10) {
             malform(random, &mut texts[last]);
         }
@@ -189,20 +222,20 @@ fn full_lists(random: &mut Random) -> Vec<u8> {
 
 /// A valid book of more bytes than are allowed, and the length of the whole
 /// deals that fit.
-fn overlong(random: &mut Random) -> (Vec<u8>, usize) {
-    let mut book = HEADER.to_vec();
+fn overlong(random: &mut Random, edition: u64) -> (Vec<u8>, usize) {
+    let mut book = header(edition).to_vec();
     let mut whole = book.len();
     while book.len() <= BOOK_LIMIT + 8 {
         if book.len() <= BOOK_LIMIT {
             whole = book.len();
         }
-        book.extend(deal(random).iter().flat_map(Line::text));
+        book.extend(texts(edition, &deal(random, edition)).concat());
     }
     (book, whole)
 }
 
-fn large(random: &mut Random) -> Vec<u8> {
-    let (mut book, whole) = overlong(random);
+fn large(random: &mut Random, edition: u64) -> Vec<u8> {
+    let (mut book, whole) = overlong(random, edition);
     match random.below(4) {
         0 => book.truncate(whole),
         // Cut, mostly inside a line.
@@ -218,55 +251,73 @@ fn large(random: &mut Random) -> Vec<u8> {
 }
 
 /// About 2,048 deals, which the program can print, or as many as fit.
-fn many_deals(random: &mut Random) -> Vec<u8> {
+fn many_deals(random: &mut Random, edition: u64) -> Vec<u8> {
     let deals = match random.percent(90) {
         true => random.between(2040, 2060) as usize,
         false => usize::MAX,
     };
-    short_deals(random, deals)
+    short_deals(random, edition, deals)
 }
 
 /// So many deals of a few bytes, or as many as fit and perhaps one more.
-fn short_deals(random: &mut Random, deals: usize) -> Vec<u8> {
+fn short_deals(random: &mut Random, edition: u64, deals: usize) -> Vec<u8> {
     let openings = [b"D\t\n" as &[u8], b"D\t1\n", b"D\t\n\n", b"D\t\nC\t\n"];
     let opening = random.pick(&openings);
-    let most = (BOOK_LIMIT - HEADER.len()) / opening.len() + random.index(2);
-    [HEADER, &opening.repeat(deals.min(most))].concat()
+    let most = (BOOK_LIMIT - HEADER_LENGTH) / opening.len() + random.index(2);
+    [header(edition), &opening.repeat(deals.min(most))].concat()
 }
 
-fn wrong_header(random: &mut Random) -> Vec<u8> {
-    let mut header = HEADER.to_vec();
-    match random.below(10) {
-        0 => header.clear(),
-        1 => header.truncate(random.index(HEADER.len())),
-        2 => return HEADER[..random.index(HEADER.len())].to_vec(),
-        3 => header.insert(5, random.pick(b"\r \t01")),
-        4 => header = b"crm\t1\n".to_vec(),
-        5 => {
-            header = random
-                .pick(&[b"CRM 1\n", b"CRM\t2\n", b"CRM\t0\n", b"CRN\t1\n"])
+/// Now and then it is one all the same.
+fn wrong_header(random: &mut Random, edition: u64) -> Vec<u8> {
+    let mut first = header(edition).to_vec();
+    match random.below(16) {
+        0 => first.clear(),
+        1 => first.truncate(random.index(HEADER_LENGTH)),
+        2 => {
+            first.truncate(random.index(HEADER_LENGTH));
+            return first;
+        }
+        3 => first.insert(5, random.pick(b"\r \t012")),
+        4 => {
+            first = random
+                .pick(&[b"crm\t1\n", b"CRM 1\n", b"CRM 2\n", b"CRN\t1\n"])
                 .to_vec()
         }
-        6 => header.insert(0, random.pick(b"\n \xef\x00C")),
-        7 => header.insert(random.index(6), random.pick(NEAR)),
-        8 => drop(header.remove(random.index(6))),
-        _ => {
+        5 => first.insert(0, random.pick(b"\n \xef\x00C")),
+        6 => first.insert(random.index(6), random.pick(NEAR)),
+        7 => drop(first.remove(random.index(6))),
+        8 | 9 => {
             let at = random.index(6);
-            header[at] ^= 1 << random.below(8);
+            first[at] ^= 1 << random.below(8);
         }
+        _ => first = no_header(random).to_vec(),
     }
-    header.extend_from_slice(&valid(random)[HEADER.len()..]);
-    header
+    first.extend_from_slice(&valid(random, edition)[HEADER_LENGTH..]);
+    first
 }
 
-fn wrong_second_line(random: &mut Random) -> Vec<u8> {
-    let deals = valid(random);
-    let item = deal_with(random, 1, 1);
+/// One header, and all deals or the later ones as the other has them.
+fn other_header(random: &mut Random, edition: u64) -> Vec<u8> {
+    let mut book = header(edition).to_vec();
+    for (place, deal) in some_deals(random, edition).iter().enumerate() {
+        let of = match place == 0 && random.percent(50) {
+            true => edition,
+            false => other(edition),
+        };
+        book.extend(texts(of, deal).concat());
+    }
+    book
+}
+
+fn wrong_second_line(random: &mut Random, edition: u64) -> Vec<u8> {
+    let header = header(edition);
+    let deals = valid(random, edition);
+    let item = texts(edition, &deal_with(random, edition, 1, 1));
     let line = match random.below(10) {
         0 => b"\n".to_vec(),
-        1 => HEADER.to_vec(),
-        2 | 3 => item[1].text(),
-        4 => item[2].text(),
+        1 => header.to_vec(),
+        2 | 3 => item[1].clone(),
+        4 => item[2].clone(),
         5 => random
             .pick(&[
                 b"D\n" as &[u8],
@@ -277,21 +328,21 @@ fn wrong_second_line(random: &mut Random) -> Vec<u8> {
                 b" ",
             ])
             .to_vec(),
-        6 => [vec![random.pick(b" \nDdM")], item[0].text()].concat(),
+        6 => [vec![random.pick(b" \nDdM")], item[0].clone()].concat(),
         7 => vec![random.pick(NEAR)],
         8 => vec![random.pick(NEAR), b'\n'],
         _ => {
             return [
-                HEADER,
+                header,
                 random.pick(&[b"D" as &[u8], b"C", b"\n", b"D\r", b"\x00"]),
             ]
             .concat()
         }
     };
-    [HEADER, &line, &deals[HEADER.len()..]].concat()
+    [header, &line, &deals[HEADER_LENGTH..]].concat()
 }
 
-fn bytes(random: &mut Random) -> Vec<u8> {
+fn bytes(random: &mut Random, edition: u64) -> Vec<u8> {
     let length = match random.below(4) {
         0 => random.index(8),
         1 | 2 => random.index(300),
@@ -299,8 +350,8 @@ fn bytes(random: &mut Random) -> Vec<u8> {
     };
     let mut book = match random.below(4) {
         0 => Vec::new(),
-        1 => HEADER.to_vec(),
-        _ => [HEADER, b"D\t"].concat(),
+        1 => header(edition).to_vec(),
+        _ => [header(edition), b"D\t"].concat(),
     };
     let any = random.percent(40);
     book.extend((0..length).map(|_| match any {
@@ -313,6 +364,8 @@ fn bytes(random: &mut Random) -> Vec<u8> {
 #[cfg(test)]
 mod tests {
     use super::*;
+    use crate::heading::{edition_of, EDITIONS};
+    use crate::line::count_deals;
     use std::collections::HashSet;
 
     #[test]
@@ -328,5 +381,36 @@ mod tests {
             .map(|number| Random::new(1, number).weighted(KINDS))
             .collect();
         assert_eq!(kinds.len(), KINDS.len());
+    }
+
+    #[test]
+    fn every_kind_occurs_under_both_headers() {
+        for (_, kind) in KINDS.iter().filter(|(_, kind)| *kind != Kind::WrongHeader) {
+            for edition in EDITIONS {
+                let books = (0..20).map(|n| of_kind(*kind, &mut Random::new(37, n), edition));
+                let headed = books.filter(|book| edition_of(book) == Some(edition));
+                assert!(headed.count() > 5, "{kind:?}");
+            }
+        }
+    }
+
+    /// The refusals of a book's deals.
+    fn refusals(book: &[u8]) -> Vec<u64> {
+        let mut results = vec![0; count_deals(book) * 4];
+        assert!(hadlephoga::answer_book(book, &mut results).is_ok());
+        results.chunks_exact(4).map(|answer| answer[1]).collect()
+    }
+
+    #[test]
+    fn lines_of_the_other_header_are_refused() {
+        for number in 0..100 {
+            let random = &mut Random::new(41, number);
+            let edition = number % 2 + 1;
+            for book in [valid(random, edition), unrated(random, edition)] {
+                assert!(refusals(&book).iter().all(|refusal| *refusal == 0));
+            }
+            let refusals = refusals(&other_header(random, edition));
+            assert!(refusals.iter().skip(1).all(|refusal| *refusal == 11));
+        }
     }
 }

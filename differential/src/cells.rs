@@ -3,7 +3,7 @@
 use std::collections::BTreeMap;
 
 /// A case by its numbers, filled up with zeros.
-pub type Cell = [u64; 5];
+pub type Cell = [u64; 7];
 
 pub struct Cells {
     pub title: &'static str,
@@ -62,7 +62,7 @@ impl Cells {
 }
 
 pub fn cell(numbers: &[u64]) -> Cell {
-    let mut cell = [0; 5];
+    let mut cell = [0; 7];
     cell[..numbers.len()].copy_from_slice(numbers);
     cell
 }

@@ -7,10 +7,12 @@ use hadlephoga::{
 };
 use reference::DealRead;
 
-use crate::line::{count_deals, lines, opens_deal, HEADER};
+use crate::floors;
+use crate::heading::{edition_of, other};
+use crate::line::{count_deals, lines, opens_deal};
 use crate::operations;
 use crate::random::Random;
-use crate::records::{fill_past_counts, without_garbage};
+use crate::records::{change_sovereigns, fill_past_counts, without_garbage};
 use crate::sides::{from_reference, reference_report, Side};
 use crate::tally::Tally;
 
@@ -68,11 +70,13 @@ pub fn book(random: &mut Random, book: &[u8], tally: &mut Tally) -> Result<(), D
     ];
     answers(book, others[0], tally)?;
     answers(book, random.pick(&others[1..]), tally)?;
-    if book.starts_with(HEADER) {
+    let edition = edition_of(book);
+    if edition.is_some() {
         tally.size(book.len(), deals);
     }
-    if reply.refusal == 0 {
-        tally.answered_book(book, &results);
+    match edition.filter(|_| reply.refusal == 0) {
+        Some(edition) => tally.answered_book(book, edition, &results),
+        None => tally.refused_book(book, reply.refusal),
     }
     reports(random, book, reply, &results, tally)
 }
@@ -104,9 +108,9 @@ fn answers(
         ));
     }
     if proved_reply.refusal != 0 {
-        tally.refused_books.meet(&[proved_reply.refusal]);
+        tally.answers.books.meet(&[proved_reply.refusal]);
     }
-    tally.numbers += 2 + length as u64;
+    tally.counts.numbers += 2 + length as u64;
     Ok((proved_reply, proved.list().to_vec()))
 }
 
@@ -145,22 +149,11 @@ fn reports(
         let expected = match read {
             DealRead::Refused { refusal, line } => [serial, *refusal, *line, 0],
             DealRead::Accepted(record) => {
-                let mut record = from_reference(record);
-                let in_book = |mut difference: Difference| {
+                let report = accepted(random, from_reference(record), tally);
+                let report = report.map_err(|mut difference| {
                     difference.deal = lines_of(book, place) + &difference.deal;
                     difference
-                };
-                let numbers = record.to_numbers();
-                if random.percent(5) {
-                    operations::built(&record, tally).map_err(in_book)?;
-                }
-                let (_, report) = report(random, &numbers, tally).map_err(in_book)?;
-                if random.percent(20) {
-                    fill_past_counts(random, &mut record);
-                    garbage(&record, &report, tally).map_err(in_book)?;
-                }
-                let report = Report::from_numbers(&report);
-                tally.report(&record, &report);
+                })?;
                 [serial, 0, report.exposure, report.weighted_amount]
             }
         };
@@ -172,22 +165,73 @@ fn reports(
     Ok(())
 }
 
+/// The report of a deal that a book gave. Some of these deals are built from
+/// nothing, some get garbage past their counts, some another edition.
+fn accepted(
+    random: &mut Random,
+    mut record: Record,
+    tally: &mut Tally,
+) -> Result<Report, Difference> {
+    let numbers = record.to_numbers();
+    if random.percent(5) {
+        operations::built(&record, tally)?;
+    }
+    let (_, report) = report(random, &numbers, tally)?;
+    if random.percent(20) {
+        fill_past_counts(random, &mut record);
+        garbage(&record, &report, tally)?;
+    }
+    let report = Report::from_numbers(&report);
+    tally.report(&record, &report);
+    if random.percent(10) {
+        other_edition(random, &record, &report, tally)?;
+    }
+    Ok(report)
+}
+
+/// An accepted deal that is changed to the other edition and to other steps of
+/// sovereigns, which have no effect under edition 1: so one report is without
+/// the floor, and one with it.
+fn other_edition(
+    random: &mut Random,
+    record: &Record,
+    report: &Report,
+    tally: &mut Tally,
+) -> Result<(), Difference> {
+    let mut changed = record.clone();
+    changed.terms.edition = other(record.terms.edition);
+    change_sovereigns(random, &mut changed);
+    let (_, numbers) = self::report(random, &changed.to_numbers(), tally)?;
+    let other = Report::from_numbers(&numbers);
+    tally.report(&changed, &other);
+    let reports = match changed.terms.edition {
+        1 => [&other, report],
+        _ => [report, &other],
+    };
+    floors::meet_change(&mut tally.floors, record, reports);
+    Ok(())
+}
+
 /// A record of any numbers.
 pub fn record(
     random: &mut Random,
     numbers: &[u64; RECORD_LENGTH],
     tally: &mut Tally,
 ) -> Result<(), Difference> {
-    tally.records += 1;
+    tally.counts.records += 1;
     let (refusal, report) = report(random, numbers, tally)?;
     let record = Record::from_numbers(numbers);
     garbage(&without_garbage(record.clone()), &report, tally)?;
+    tally.editions.meet_record(numbers, refusal);
     match refusal {
         0 => {
-            tally.accepted_records += 1;
+            tally.counts.accepted_records += 1;
             tally.report(&record, &Report::from_numbers(&report));
         }
-        refusal => tally.refused_records.meet(&[refusal]),
+        refusal => {
+            tally.answers.records.meet(&[refusal]);
+            tally.sovereigns.meet_record(&record);
+        }
     }
     if random.percent(10) {
         lengths(random, numbers, tally)?;
@@ -212,7 +256,7 @@ fn report(
     let proved_refusal = hadlephoga::report_numbers(record, proved.list());
     let (reference_refusal, report) = reference_report(record);
     reference.list()[..REPORT_LENGTH].copy_from_slice(&report);
-    tally.numbers += 1 + (REPORT_LENGTH + longer) as u64;
+    tally.counts.numbers += 1 + (REPORT_LENGTH + longer) as u64;
     if proved_refusal != reference_refusal || proved.numbers != reference.numbers {
         let mut places = proved.list().iter().zip(reference.list());
         let place = places.position(|(one, other)| one != other);
@@ -258,7 +302,7 @@ fn garbage(
     let mut proved = [0; REPORT_LENGTH];
     hadlephoga::report_numbers(&numbers, &mut proved);
     let (_, reference) = reference_report(&numbers);
-    tally.numbers += REPORT_LENGTH as u64;
+    tally.counts.numbers += REPORT_LENGTH as u64;
     if proved != *report || reference != *report {
         return Err(differ(
             &format!("places past the counts change the report {report:?}"),
@@ -299,7 +343,7 @@ fn lengths(
             40
         }
     };
-    tally.numbers += 1 + room as u64;
+    tally.counts.numbers += 1 + room as u64;
     if refusal != due || proved.numbers != expected.numbers {
         return Err(differ(
             "lists of other lengths (beside what is due)",
@@ -308,7 +352,7 @@ fn lengths(
             (due, expected.list()),
         ));
     }
-    tally.refused_records.meet(&[refusal]);
+    tally.answers.records.meet(&[refusal]);
     Ok(())
 }
 

@@ -184,11 +184,12 @@ mod tests {
             fs::create_dir_all(&folder.0).expect("a new folder");
             folder.write("index", b"one\ntwo\n");
             folder.write("README.md", b"Two books.\n");
-            for name in ["one", "two"] {
-                folder.write(
-                    &format!("{name}.book"),
-                    b"CRM\t1\nD\t900\t4\t0\t978\t3\t1\t90\t1\t0\t0\n",
-                );
+            let books: [(&str, &[u8]); 2] = [
+                ("one", b"CRM\t1\nD\t900\t4\t0\t978\t3\t1\t90\t1\t0\t0\n"),
+                ("two", b"CRM\t2\nD\t900\t4\t0\t0\t978\t3\t1\t90\t1\t0\t0\n"),
+            ];
+            for (name, book) in books {
+                folder.write(&format!("{name}.book"), book);
                 folder.write(&format!("{name}.answer"), b"RESULT\t1\n1\t0\t900\t675\n");
                 folder.write(&format!("{name}.md"), b"Retail.\n");
             }

@@ -1,7 +1,7 @@
 //! Days of life and cover at the edges of their range, in every field that
 //! holds them.
 
-use crate::cells::Cells;
+use crate::cells::{cell, Cells};
 use crate::line::Line;
 use crate::outside::fields_of_days;
 use crate::random::Random;
@@ -22,7 +22,7 @@ pub fn cells(title: &'static str) -> Cells {
         title,
         fields.flat_map(|[letter, place]| {
             let edges = edges.clone();
-            edges.map(move |[days, refusal]| [letter, place, days, refusal, 0])
+            edges.map(move |[days, refusal]| cell(&[letter, place, days, refusal]))
         }),
     )
 }
@@ -71,10 +71,10 @@ pub fn put(random: &mut Random, line: &mut Line, days: u64) {
     fields[place] = days;
     match (line.letter, place) {
         // Goods that have a life.
-        (b'D', 9) | (b'C', 3) if !has_step(fields[place - 2]) => fields[place - 2] = 2,
+        (b'D', 10) | (b'C', 3) if !has_step(fields[place - 2]) => fields[place - 2] = 2,
         (b'D', _) | (b'C', 3) => (),
         // A residual term, not above the original one behind it.
-        (b'C', 5) | (b'G', 4) => fields[place + 1] = fields[place + 1].max(days.min(DAYS_LIMIT)),
+        (b'C', 5) | (b'G', 5) => fields[place + 1] = fields[place + 1].max(days.min(DAYS_LIMIT)),
         _ => fields[place - 1] = fields[place - 1].min(days),
     }
 }
@@ -87,9 +87,9 @@ mod tests {
     #[test]
     fn seven_fields_hold_days() {
         let places = |letter| Vec::from_iter(fields_of_days(letter));
-        assert_eq!(places(b'D'), [6, 9]);
+        assert_eq!(places(b'D'), [7, 10]);
         assert_eq!(places(b'C'), [3, 5, 6]);
-        assert_eq!(places(b'G'), [4, 5]);
+        assert_eq!(places(b'G'), [5, 6]);
         assert_eq!(cells("").all(), 7 * (LONG_EDGES.len() + 1));
     }
 
@@ -98,7 +98,7 @@ mod tests {
         let mut met = cells("");
         for number in 0..2000 {
             let random = &mut Random::new(11, number);
-            for mut line in deal_with(random, 1, 1) {
+            for mut line in deal_with(random, 1, 1, 1) {
                 put_at_edge(random, &mut line);
                 let above = line.fields.contains(&(DAYS_LIMIT + 1));
                 let refusal = reference_refusal(line.letter, &line.fields);
@@ -113,11 +113,12 @@ mod tests {
     #[test]
     fn only_the_cause_of_a_refusal_is_met() {
         let mut met = cells("");
-        let mut terms = [500, 3, 0, 978, 3, 1, DAYS_LIMIT + 1, 2, 1, DAYS_LIMIT + 1];
+        let mut terms = [500, 3, 0, 0, 978, 3, 1, 90, 2, 1, DAYS_LIMIT + 1, 1];
+        terms[7] = DAYS_LIMIT + 1;
         meet(&mut met, b'D', &terms, OUTSIDE);
         meet(&mut met, b'D', &[], 11);
         assert_eq!(met.met(), 0);
-        terms[6] = DAYS_LIMIT;
+        terms[7] = DAYS_LIMIT;
         meet(&mut met, b'D', &terms, OUTSIDE);
         assert_eq!(met.met(), 1);
     }

@@ -5,15 +5,20 @@ use crate::random::Random;
 use crate::values;
 
 /// An accepted deal with lists of random lengths.
-pub fn deal(random: &mut Random) -> Vec<Line> {
+pub fn deal(random: &mut Random, edition: u64) -> Vec<Line> {
     let (collateral, guarantees) = (values::list_length(random), values::list_length(random));
-    deal_with(random, collateral, guarantees)
+    deal_with(random, edition, collateral, guarantees)
 }
 
 /// An accepted deal but for the lengths of its lists; collateral and
 /// guarantees stand in any order.
-pub fn deal_with(random: &mut Random, mut collateral: u64, mut guarantees: u64) -> Vec<Line> {
-    let terms = values::terms(random);
+pub fn deal_with(
+    random: &mut Random,
+    edition: u64,
+    mut collateral: u64,
+    mut guarantees: u64,
+) -> Vec<Line> {
+    let terms = values::terms(random, edition);
     let of = (collateral, guarantees);
     let mut lines = vec![Line::new(b'D', &terms.to_numbers())];
     while collateral + guarantees > 0 {
@@ -33,17 +38,15 @@ pub fn deal_with(random: &mut Random, mut collateral: u64, mut guarantees: u64) 
 #[cfg(test)]
 mod tests {
     use super::*;
-    use crate::line::HEADER;
+    use crate::heading::header;
 
     #[test]
     fn every_deal_is_accepted() {
         for number in 0..2000 {
-            let mut book = HEADER.to_vec();
-            book.extend(
-                deal(&mut Random::new(7, number))
-                    .iter()
-                    .flat_map(Line::text),
-            );
+            let edition = number % 2 + 1;
+            let deal = deal(&mut Random::new(7, number), edition);
+            let mut book = header(edition).to_vec();
+            book.extend(deal.iter().flat_map(|line| line.text(edition)));
             let mut results = [0; 4];
             assert_eq!(hadlephoga::answer_book(&book, &mut results), Ok(1));
             assert_eq!(results[1], 0, "{}", book.escape_ascii());

@@ -1,6 +1,12 @@
-//! A line of a book as its letter and numbers.
+//! A line of a book as its letter and the numbers that opening or adding takes
+//! for it, those that it leaves out among them.
 
-pub const HEADER: &[u8] = b"CRM\t1\n";
+use hadlephoga::{Collateral, Guarantee, Terms};
+
+use crate::heading::{is_sent, EDITION};
+
+/// Digits of the longest number of a line.
+const MOST_DIGITS: usize = 13;
 
 #[derive(Clone, Debug)]
 pub struct Line {
@@ -14,26 +20,56 @@ impl Line {
         Line { letter, fields }
     }
 
-    /// The line of such a text; None where it cannot be read.
-    pub fn read(text: &[u8]) -> Option<Self> {
-        let text = std::str::from_utf8(text).ok()?.strip_suffix('\n')?;
-        let (letter, numbers) = text.split_once('\t')?;
-        let fields = numbers.split('\t').map(|field| field.parse().ok());
-        Some(Line {
-            letter: *letter.as_bytes().first()?,
-            fields: fields.collect::<Option<_>>()?,
-        })
+    /// What a text says in a book of this edition; None where it is malformed.
+    pub fn read(text: &[u8], edition: u64) -> Option<Self> {
+        let mut pieces = text.strip_suffix(b"\n")?.split(|byte| *byte == b'\t');
+        let letter = match pieces.next()? {
+            [letter] => *letter,
+            _ => return None,
+        };
+        let mut fields = vec![0; width(letter)?];
+        for (place, field) in fields.iter_mut().enumerate() {
+            if is_sent(edition, letter, place) {
+                *field = number(pieces.next()?)?;
+            }
+        }
+        if letter == b'D' {
+            fields[EDITION] = edition;
+        }
+        let whole = pieces.next().is_none();
+        whole.then_some(Line { letter, fields })
     }
 
-    /// As it stands in a book, with its line feed.
-    pub fn text(&self) -> Vec<u8> {
+    /// As it stands in a book of this edition, with its line feed.
+    pub fn text(&self, edition: u64) -> Vec<u8> {
         let mut text = vec![self.letter];
-        for field in &self.fields {
-            text.extend_from_slice(format!("\t{field}").as_bytes());
+        for (place, field) in self.fields.iter().enumerate() {
+            if is_sent(edition, self.letter, place) {
+                text.extend_from_slice(format!("\t{field}").as_bytes());
+            }
         }
         text.push(b'\n');
         text
     }
+}
+
+/// How many numbers opening or adding takes for a line with this letter.
+pub fn width(letter: u8) -> Option<usize> {
+    match letter {
+        b'D' => Some(Terms::LENGTH),
+        b'C' => Some(Collateral::LENGTH),
+        b'G' => Some(Guarantee::LENGTH),
+        _ => None,
+    }
+}
+
+fn number(digits: &[u8]) -> Option<u64> {
+    let leading_zero = digits.len() > 1 && digits[0] == b'0';
+    let fits = (1..=MOST_DIGITS).contains(&digits.len()) && !leading_zero;
+    if !fits || !digits.iter().all(u8::is_ascii_digit) {
+        return None;
+    }
+    std::str::from_utf8(digits).ok()?.parse().ok()
 }
 
 /// Whether a text begins as a deal does.
@@ -54,22 +90,54 @@ pub fn count_deals(book: &[u8]) -> usize {
 #[cfg(test)]
 mod tests {
     use super::*;
+    use crate::heading::other;
+
+    fn read(text: &[u8], edition: u64) -> Option<(u8, Vec<u64>)> {
+        Line::read(text, edition).map(|line| (line.letter, line.fields))
+    }
 
     #[test]
-    fn text_of_a_line() {
-        let text = b"G\t0\t12\n";
-        assert_eq!(Line::new(b'G', &[0, 12]).text(), text);
-        let read = Line::read(text).map(|line| (line.letter, line.fields));
-        assert_eq!(read, Some((b'G', vec![0, 12])));
-        for text in [
-            b"G\t1" as &[u8],
-            b"G\n",
-            b"\t1\n",
-            b"G\t1\t\n",
-            b"G\t\xff\n",
-        ] {
-            assert!(Line::read(text).is_none());
+    fn texts_under_either_header() {
+        let guarantee = [9, 2, 0, 6, 978, 90, 90, 1, 1, 0];
+        let line = Line::new(b'G', &guarantee);
+        assert_eq!(line.text(1), b"G\t9\t2\t0\t978\t90\t90\t1\t1\t0\n");
+        assert_eq!(line.text(2), b"G\t9\t2\t0\t6\t978\t90\t90\t1\t1\t0\n");
+        assert_eq!(read(&line.text(2), 2), Some((b'G', guarantee.to_vec())));
+        let terms = [9, 3, 0, 6, 978, 3, 1, 90, 1, 0, 0, 2];
+        let line = Line::new(b'D', &terms);
+        assert_eq!(line.text(2), b"D\t9\t3\t0\t6\t978\t3\t1\t90\t1\t0\t0\n");
+        assert_eq!(read(&line.text(2), 2), Some((b'D', terms.to_vec())));
+        // The sovereign's step reads 0, the edition as the header says.
+        let terms = [9, 3, 0, 0, 978, 3, 1, 90, 1, 0, 0, 1];
+        assert_eq!(read(&line.text(1), 1), Some((b'D', terms.to_vec())));
+    }
+
+    #[test]
+    fn lines_of_the_other_header_are_malformed() {
+        for letter in *b"DCG" {
+            let line = Line::new(letter, &vec![1; width(letter).expect("a known letter")]);
+            for edition in [1, 2] {
+                assert!(Line::read(&line.text(edition), edition).is_some());
+                let readable = Line::read(&line.text(edition), other(edition)).is_some();
+                assert_eq!(readable, letter == b'C');
+            }
         }
+    }
+
+    #[test]
+    fn malformed_lines() {
+        let sound = b"G\t9\t2\t0\t978\t90\t90\t1\t1\t0";
+        assert!(Line::read(&[sound, b"\n" as &[u8]].concat(), 1).is_some());
+        for end in [b"" as &[u8], b"\t\n", b"\t1\n", b"1.\n", b"\r\n", b"\xff\n"] {
+            assert!(Line::read(&[sound, end].concat(), 1).is_none());
+        }
+        for text in [b"G\n" as &[u8], b"\t1\n", b"GG\t1\n", b"X\t1\n", b"\n", b""] {
+            assert!(Line::read(text, 1).is_none());
+        }
+        for digits in [b"" as &[u8], b"01", b"+1", b"10000000000000"] {
+            assert_eq!(number(digits), None);
+        }
+        assert_eq!(number(b"9999999999999"), Some(9_999_999_999_999));
     }
 
     #[test]

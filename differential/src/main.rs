@@ -1,6 +1,7 @@
 //! Compares the proved library with the second implementation on random books
 //! and records and on the conformance books, and measures both.
 
+mod answers;
 mod arguments;
 mod bench;
 mod books;
@@ -10,18 +11,26 @@ mod conformance;
 mod damage;
 mod days;
 mod deal;
+mod editions;
+mod first_lines;
+mod floors;
+mod haircuts;
+mod heading;
 mod line;
 mod malformed;
 mod measured;
 mod operations;
 mod outside;
+mod parties;
 mod random;
 mod records;
 mod run;
 mod shapes;
 mod sides;
+mod sovereign;
 mod table;
 mod tally;
+mod unrated;
 mod values;
 
 use std::process::ExitCode;
@@ -38,8 +47,8 @@ fn main() -> ExitCode {
         Command::Run(options) => run::run(&options),
         Command::OneBook { seed, book } => run::one_book(seed, book),
         Command::Conformance(folder) => told(conformance::run(&folder)),
-        Command::Bench { rounds } => told(bench::run(rounds)),
-        Command::Books(folder) => told(shapes::write(&folder)),
+        Command::Bench { rounds, editions } => told(bench::run(rounds, &editions)),
+        Command::Books { folder, editions } => told(shapes::write(&folder, &editions)),
         Command::Once { side, book, calls } => told(measured::once(side, &book, calls)),
     };
     match fine {

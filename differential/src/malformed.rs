@@ -1,7 +1,9 @@
 //! Lines that cannot be read: every form of refusal 11, and some texts close
 //! to it that can.
 
+use crate::heading::header;
 use crate::random::Random;
+use crate::values;
 
 /// Bytes close to those a book is made of.
 pub const NEAR: &[u8] = b"\t\t\n\n\r DCGdcgM0123456789019/:-+.,xXe_\x00\x0b\x0c\x7f\x80\xc2\xff";
@@ -44,7 +46,7 @@ fn letter(random: &mut Random, line: &mut Vec<u8>) {
     match random.below(8) {
         0 => line[0] = random.pick(b"ABEFHZdcg0 \tM"),
         1 => *line = b"\n".to_vec(),
-        2 => *line = crate::line::HEADER.to_vec(),
+        2 => *line = header(values::edition(random)).to_vec(),
         3 => *line = [line[0], b'\n'].to_vec(),
         4 => line.insert(0, random.pick(b" \tDCG\xef")),
         5 => line[0] = random.pick(b"DCG"),
@@ -149,8 +151,9 @@ mod tests {
     fn every_form_takes_every_line() {
         for number in 0..5000 {
             let mut random = Random::new(3, number);
-            for line in deal(&mut random) {
-                malform(&mut random, &mut line.text());
+            let edition = number % 2 + 1;
+            for line in deal(&mut random, edition) {
+                malform(&mut random, &mut line.text(edition));
             }
         }
     }

@@ -5,10 +5,13 @@ use hadlephoga::{Record, ITEMS, RECORD_LENGTH};
 
 use crate::compare::{around, differ, Difference, Lent};
 use crate::days;
+use crate::editions;
+use crate::heading::EDITION;
 use crate::line::Line;
 use crate::random::Random;
 use crate::records::{self, changed, EDGES};
 use crate::sides::{reference_add, reference_open};
+use crate::sovereign;
 use crate::tally::Tally;
 use crate::values;
 
@@ -19,25 +22,29 @@ type Add = fn(&mut [u64], &[u64]) -> u64;
 pub fn operations(random: &mut Random, tally: &mut Tally) -> Result<(), Difference> {
     opening(random, tally)?;
     let item = collateral(random);
-    let refusal = adding(
+    let (_, refusal) = adding(
         random,
         "adding collateral",
         &item,
         [hadlephoga::add_collateral_numbers, add_collateral],
         tally,
     )?;
-    tally.added_collateral.meet(&[refusal]);
+    tally.answers.added_collateral.meet(&[refusal]);
     days::meet(&mut tally.days_on_numbers, b'C', &item, refusal);
     let item = guarantee(random);
-    let refusal = adding(
+    let (record, refusal) = adding(
         random,
         "adding a guarantee",
         &item,
         [hadlephoga::add_guarantee_numbers, add_guarantee],
         tally,
     )?;
-    tally.added_guarantees.meet(&[refusal]);
+    tally.answers.added_guarantees.meet(&[refusal]);
     days::meet(&mut tally.days_on_numbers, b'G', &item, refusal);
+    // In a record of another length nothing is the edition; it is refused.
+    let edition = record.get(EDITION).copied().unwrap_or(0);
+    let sovereigns = &mut tally.sovereigns;
+    sovereigns.meet_numbers(b'G', &item, edition, refusal);
     Ok(())
 }
 
@@ -50,7 +57,8 @@ fn add_guarantee(record: &mut [u64], item: &[u64]) -> u64 {
 }
 
 fn opening(random: &mut Random, tally: &mut Tally) -> Result<(), Difference> {
-    let terms = values::terms(random).to_numbers();
+    let edition = values::edition(random);
+    let terms = values::terms(random, edition).to_numbers();
     let terms = damaged(random, b'D', terms);
     let room = match random.percent(80) {
         true => RECORD_LENGTH + random.index(3),
@@ -59,7 +67,7 @@ fn opening(random: &mut Random, tally: &mut Tally) -> Result<(), Difference> {
     let (mut proved, mut reference) = (Lent::new(room), Lent::new(room));
     let proved_refusal = hadlephoga::open_numbers(&terms, proved.list());
     let reference_refusal = reference_open(&terms, reference.list());
-    tally.numbers += 1 + room as u64;
+    tally.counts.numbers += 1 + room as u64;
     if proved_refusal != reference_refusal || proved.numbers != reference.numbers {
         return Err(differ(
             "opening",
@@ -68,26 +76,31 @@ fn opening(random: &mut Random, tally: &mut Tally) -> Result<(), Difference> {
             (reference_refusal, reference.list()),
         ));
     }
-    tally.opened.meet(&[proved_refusal]);
+    tally.answers.opened.meet(&[proved_refusal]);
     days::meet(&mut tally.days_on_numbers, b'D', &terms, proved_refusal);
+    tally.editions.meet_opening(&terms, proved_refusal);
+    let edition = terms.get(EDITION).copied().unwrap_or(0);
+    let sovereigns = &mut tally.sovereigns;
+    sovereigns.meet_numbers(b'D', &terms, edition, proved_refusal);
     Ok(())
 }
 
-/// Both answers, by the library and by the second implementation.
+/// Both answers, by the library and by the second implementation; with the record
+/// to which the item was to be added.
 fn adding(
     random: &mut Random,
     about: &str,
     item: &[u64],
     [proved_add, reference_add]: [Add; 2],
     tally: &mut Tally,
-) -> Result<u64, Difference> {
+) -> Result<(Vec<u64>, u64), Difference> {
     let numbers = record(random);
     let (mut proved, mut reference) = (Lent::new(numbers.len()), Lent::new(numbers.len()));
     proved.list().copy_from_slice(&numbers);
     reference.list().copy_from_slice(&numbers);
     let proved_refusal = proved_add(proved.list(), item);
     let reference_refusal = reference_add(reference.list(), item);
-    tally.numbers += 1 + numbers.len() as u64;
+    tally.counts.numbers += 1 + numbers.len() as u64;
     if proved_refusal != reference_refusal || proved.numbers != reference.numbers {
         return Err(differ(
             about,
@@ -96,7 +109,7 @@ fn adding(
             (reference_refusal, reference.list()),
         ));
     }
-    Ok(proved_refusal)
+    Ok((numbers, proved_refusal))
 }
 
 /// A record of any numbers, now and then of another length or with full lists.
@@ -104,7 +117,8 @@ fn record(random: &mut Random) -> Vec<u64> {
     let mut numbers = records::record(random);
     if random.percent(10) {
         let mut record = Record::from_numbers(&numbers);
-        let terms = values::terms(random);
+        let edition = values::edition(random);
+        let terms = values::terms(random, edition);
         record.terms = terms;
         record.collateral = std::array::from_fn(|_| values::collateral(random, &terms, 16));
         record.guarantees = std::array::from_fn(|_| values::guarantee(random, &terms, 16));
@@ -120,34 +134,33 @@ fn record(random: &mut Random) -> Vec<u64> {
 }
 
 fn collateral(random: &mut Random) -> Vec<u64> {
-    let terms = values::terms(random);
+    let terms = values::terms(random, 1);
     let item = values::collateral(random, &terms, 1).to_numbers();
     damaged(random, b'C', item)
 }
 
 fn guarantee(random: &mut Random) -> Vec<u64> {
-    let terms = values::terms(random);
+    let terms = values::terms(random, 1);
     let item = values::guarantee(random, &terms, 1).to_numbers();
     damaged(random, b'G', item)
 }
 
-/// As they are, with days at an edge, outside their ranges, any numbers, or too
-/// many or too few.
+/// As they are, with days at an edge, with a wrong sovereign's step, with an
+/// unknown edition, outside their ranges, any numbers, or too many or too few.
 fn damaged<const WIDTH: usize>(random: &mut Random, letter: u8, fields: [u64; WIDTH]) -> Vec<u64> {
-    let mut fields = match random.below(20) {
-        0..=5 => fields.to_vec(),
-        6..=9 => {
-            let mut line = Line::new(letter, &fields);
-            days::put_at_edge(random, &mut line);
-            line.fields
-        }
-        10..=18 => changed(random, letter, &fields).to_vec(),
-        _ => (0..WIDTH).map(|_| random.pick(EDGES)).collect(),
-    };
-    if random.percent(5) {
-        fields.resize(random.pick(&around(WIDTH)), 1);
+    let mut line = Line::new(letter, &fields);
+    match random.below(25) {
+        0..=6 => (),
+        7..=10 => days::put_at_edge(random, &mut line),
+        11..=13 => sovereign::put_wrong(random, &mut line),
+        14 if letter == b'D' => line.fields[EDITION] = editions::unknown(random),
+        14..=23 => line.fields = changed(random, letter, &fields).to_vec(),
+        _ => line.fields = (0..WIDTH).map(|_| random.pick(EDGES)).collect(),
     }
-    fields
+    if random.percent(5) {
+        line.fields.resize(random.pick(&around(WIDTH)), 1);
+    }
+    line.fields
 }
 
 /// An accepted deal, built by the library's opening and adding from nothing, is
@@ -155,8 +168,13 @@ fn damaged<const WIDTH: usize>(random: &mut Random, letter: u8, fields: [u64; WI
 pub fn built(record: &Record, tally: &mut Tally) -> Result<(), Difference> {
     let mut numbers = [u64::MAX; RECORD_LENGTH];
     let mut refusals = Vec::new();
+    let edition = record.terms.edition;
     let mut answered = |letter, fields: &[u64], refusal| {
         days::meet(&mut tally.days_on_numbers, letter, fields, refusal);
+        if letter != b'C' {
+            let sovereigns = &mut tally.sovereigns;
+            sovereigns.meet_numbers(letter, fields, edition, refusal);
+        }
         refusals.push(refusal);
     };
     let terms = record.terms.to_numbers();
@@ -172,7 +190,7 @@ pub fn built(record: &Record, tally: &mut Tally) -> Result<(), Difference> {
         let refusal = hadlephoga::add_guarantee_numbers(&mut numbers, &item);
         answered(b'G', &item, refusal);
     }
-    tally.numbers += (refusals.len() + RECORD_LENGTH) as u64;
+    tally.counts.numbers += (refusals.len() + RECORD_LENGTH) as u64;
     let expected = record.to_numbers();
     if refusals.iter().any(|refusal| *refusal != 0) || numbers != expected {
         return Err(differ(
@@ -197,10 +215,11 @@ mod tests {
             assert!(operations(random, &mut tally).is_ok());
         }
         for cells in [
-            &tally.opened,
-            &tally.added_collateral,
-            &tally.added_guarantees,
+            &tally.answers.opened,
+            &tally.answers.added_collateral,
+            &tally.answers.added_guarantees,
             &tally.days_on_numbers,
+            tally.editions.families()[0],
         ] {
             assert_eq!(cells.met(), cells.all(), "{}", cells.title);
             assert_eq!(cells.unlisted().count(), 0);

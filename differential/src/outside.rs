@@ -3,6 +3,7 @@
 use crate::days;
 use crate::line::Line;
 use crate::random::Random;
+use crate::sovereign;
 use crate::values::{AMOUNT_LIMIT, DAYS_LIMIT};
 
 /// What a field holds, as far as its range goes.
@@ -11,6 +12,7 @@ enum Sort {
     Amount,
     Class,
     Step,
+    SovereignStep,
     Currency,
     Kind,
     Interval,
@@ -18,27 +20,49 @@ enum Sort {
     Type,
     Life,
     Condition,
+    Edition,
 }
 
 use Sort::*;
 
 const DEAL: &[Sort] = &[
-    Amount, Class, Step, Currency, Kind, Interval, Term, Type, Step, Life,
+    Amount,
+    Class,
+    Step,
+    SovereignStep,
+    Currency,
+    Kind,
+    Interval,
+    Term,
+    Type,
+    Step,
+    Life,
+    Edition,
 ];
 const COLLATERAL: &[Sort] = &[
     Amount, Type, Step, Life, Currency, Term, Term, Condition, Condition, Condition, Condition,
 ];
 const GUARANTEE: &[Sort] = &[
-    Amount, Class, Step, Currency, Term, Term, Condition, Condition, Condition,
+    Amount,
+    Class,
+    Step,
+    SovereignStep,
+    Currency,
+    Term,
+    Term,
+    Condition,
+    Condition,
+    Condition,
 ];
 
 /// Some of these are outside for some classes and types only: class 4 for
-/// providers, a step of 1 and a life of 1 where 0 is due, a life of 0 elsewhere.
+/// providers, a step of 1 (their own or their sovereign's) and a life of 1 where
+/// 0 is due, a life of 0 elsewhere.
 fn beside(sort: Sort) -> &'static [u64] {
     match sort {
         Amount => &[AMOUNT_LIMIT + 1, 9_999_999_999_999],
         Class => &[0, 4, 5, 6],
-        Step => &[1, 6, 7, 8],
+        Step | SovereignStep => &[1, 6, 7, 8],
         Currency => &[0, 1000, 1001],
         Kind => &[0, 4],
         Interval => &[0, 251],
@@ -46,8 +70,12 @@ fn beside(sort: Sort) -> &'static [u64] {
         Type => &[0, 1, 2, 10, 11],
         Life => &[0, 1, DAYS_LIMIT, DAYS_LIMIT + 1],
         Condition => &[2, 3, 10],
+        Edition => &[0, 3, 4],
     }
 }
+
+/// The place of the residual term in collateral and in a guarantee.
+const RESIDUAL: usize = 5;
 
 /// What a narrower width would cut off; each sum still has 13 digits at most.
 /// Days may be accepted with 1 << 16 more, though not as what a cut leaves of
@@ -77,20 +105,17 @@ pub fn fields_of_days(letter: u8) -> impl Iterator<Item = usize> {
 }
 
 fn put_one_outside(random: &mut Random, line: &mut Line) {
-    if random.percent(10) {
-        return days::put(random, line, DAYS_LIMIT + 1);
+    match random.below(20) {
+        0 | 1 => return days::put(random, line, DAYS_LIMIT + 1),
+        2..=5 if line.letter != b'C' => return sovereign::put_wrong(random, line),
+        6..=8 if line.letter != b'D' => {
+            // A residual term above the original one that follows it.
+            line.fields[RESIDUAL] = line.fields[RESIDUAL + 1] + random.between(1, 2);
+            return;
+        }
+        _ => (),
     }
     let sorts = sorts(line.letter);
-    let residual = match line.letter {
-        b'D' => None,
-        b'C' => Some(5),
-        _ => Some(4),
-    };
-    if let Some(residual) = residual.filter(|_| random.percent(15)) {
-        // A residual term above the original one that follows it.
-        line.fields[residual] = line.fields[residual + 1] + random.between(1, 2);
-        return;
-    }
     let place = random.index(sorts.len());
     let field = &mut line.fields[place];
     *field = match random.percent(75) {

@@ -14,6 +14,11 @@ impl Random {
         Random { state }
     }
 
+    /// Numbers beside this sequence, which goes on as if none were drawn.
+    pub fn aside(&self) -> Self {
+        Random::new(self.state, 1)
+    }
+
     pub fn number(&mut self) -> u64 {
         self.state = self.state.wrapping_add(0x9E37_79B9_7F4A_7C15);
         let mut z = self.state;
@@ -79,6 +84,17 @@ mod tests {
         numbers.sort();
         numbers.dedup();
         assert_eq!(numbers.len(), 100);
+    }
+
+    #[test]
+    fn what_is_drawn_aside_leaves_the_sequence() {
+        let (mut one, mut other) = (Random::new(1, 1), Random::new(1, 1));
+        for _ in 0..100 {
+            let aside = one.aside().number();
+            let number = one.number();
+            assert_eq!(number, other.number());
+            assert_ne!(aside, number);
+        }
     }
 
     #[test]

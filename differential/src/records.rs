@@ -1,10 +1,12 @@
 //! Random records as no book gives them: any numbers in any place.
 
-use hadlephoga::{Collateral, Guarantee, Record, ITEMS, RECORD_LENGTH};
+use hadlephoga::{Collateral, Guarantee, Record, Terms, ITEMS, RECORD_LENGTH};
 
+use crate::editions;
 use crate::line::Line;
 use crate::outside::put_outside;
 use crate::random::Random;
+use crate::sovereign::{put_wrong, right_steps};
 use crate::values;
 
 pub const EDGES: &[u64] = &[
@@ -61,7 +63,7 @@ const COUNTS: &[u64] = &[
 ];
 
 pub fn record(random: &mut Random) -> [u64; RECORD_LENGTH] {
-    match random.below(20) {
+    match random.below(24) {
         0..=8 => accepted(random).to_numbers(),
         9..=13 => outside(random).to_numbers(),
         14..=16 => counts(random).to_numbers(),
@@ -71,6 +73,8 @@ pub fn record(random: &mut Random) -> [u64; RECORD_LENGTH] {
             numbers
         }
         18 => std::array::from_fn(|_| random.pick(EDGES)),
+        19..=21 => wrong_sovereign(random).to_numbers(),
+        22 => unknown_edition(random).to_numbers(),
         _ => match random.below(4) {
             0 => [0; RECORD_LENGTH],
             1 => [1; RECORD_LENGTH],
@@ -82,7 +86,8 @@ pub fn record(random: &mut Random) -> [u64; RECORD_LENGTH] {
 
 /// An accepted deal, with garbage in the places past its counts.
 fn accepted(random: &mut Random) -> Record {
-    let terms = values::terms(random);
+    let edition = values::edition(random);
+    let terms = values::terms(random, edition);
     let (collateral, guarantees) = (values::list_length(random), values::list_length(random));
     let mut record = Record::new(
         terms,
@@ -93,11 +98,11 @@ fn accepted(random: &mut Random) -> Record {
     record
 }
 
-/// Puts garbage into every place past a count, or zeros, or items that could
-/// be counted.
+/// Puts garbage into every place past a count, or items that could be counted,
+/// or guarantees that could be but for their sovereign's step.
 pub fn fill_past_counts(random: &mut Random, record: &mut Record) {
     let terms = record.terms;
-    let sort = random.below(4);
+    let sort = random.below(5);
     let number = |random: &mut Random| match sort {
         0 => u64::MAX,
         1 => random.pick(EDGES),
@@ -105,15 +110,31 @@ pub fn fill_past_counts(random: &mut Random, record: &mut Record) {
     };
     for place in past(record.collateral_count) {
         record.collateral[place] = match sort {
-            3 => values::collateral(random, &terms, 1),
+            3 | 4 => values::collateral(random, &terms, 1),
             _ => Collateral::from_numbers(&std::array::from_fn(|_| number(random))),
         };
     }
     for place in past(record.guarantee_count) {
         record.guarantees[place] = match sort {
             3 => values::guarantee(random, &terms, 1),
+            4 => {
+                let item = values::guarantee(random, &terms, 1);
+                wrongly_provided(random, &item)
+            }
             _ => Guarantee::from_numbers(&std::array::from_fn(|_| number(random))),
         };
+    }
+}
+
+/// Gives the parties of an accepted record any sovereigns that fit their classes.
+pub fn change_sovereigns(random: &mut Random, record: &mut Record) {
+    let counted = record.guarantee_count as usize;
+    let providers = record.guarantees[..counted].iter_mut();
+    let providers = providers.map(|item| (item.class, &mut item.sovereign_step));
+    let terms = &mut record.terms;
+    for (class, step) in providers.chain([(terms.class, &mut terms.sovereign_step)]) {
+        let steps = right_steps(class);
+        *step = random.between(*steps.start(), *steps.end());
     }
 }
 
@@ -145,9 +166,37 @@ fn outside(random: &mut Random) -> Record {
         }
         _ => {
             let fields = changed(random, b'D', &record.terms.to_numbers());
-            record.terms = hadlephoga::Terms::from_numbers(&fields);
+            record.terms = Terms::from_numbers(&fields);
         }
     }
+    record
+}
+
+/// The guarantee with a wrong sovereign's step.
+fn wrongly_provided(random: &mut Random, item: &Guarantee) -> Guarantee {
+    let mut line = Line::new(b'G', &item.to_numbers());
+    put_wrong(random, &mut line);
+    Guarantee::from_numbers(&std::array::from_fn(|place| line.fields[place]))
+}
+
+/// Wrong for the sovereign's step of the counterparty or of a counted provider.
+fn wrong_sovereign(random: &mut Random) -> Record {
+    let mut record = accepted(random);
+    let counted = record.guarantee_count as usize;
+    if counted > 0 && random.percent(50) {
+        let item = &mut record.guarantees[random.index(counted)];
+        *item = wrongly_provided(random, item);
+    } else {
+        let mut line = Line::new(b'D', &record.terms.to_numbers());
+        put_wrong(random, &mut line);
+        record.terms = Terms::from_numbers(&std::array::from_fn(|place| line.fields[place]));
+    }
+    record
+}
+
+fn unknown_edition(random: &mut Random) -> Record {
+    let mut record = accepted(random);
+    record.terms.edition = editions::unknown(random);
     record
 }
 
@@ -193,5 +242,17 @@ mod tests {
             })
             .count();
         assert!((300..700).contains(&refused), "{refused}");
+    }
+
+    #[test]
+    fn changed_sovereigns_are_accepted_and_wrong_ones_are_not() {
+        for number in 0..500 {
+            let random = &mut Random::new(43, number);
+            let mut record = accepted(random);
+            change_sovereigns(random, &mut record);
+            assert!(hadlephoga::report(&record).is_ok());
+            assert!(hadlephoga::report(&wrong_sovereign(random)).is_err());
+            assert!(hadlephoga::report(&unknown_edition(random)).is_err());
+        }
     }
 }

@@ -21,7 +21,7 @@ pub fn run(options: &Run) -> bool {
     let deals = options.deals.unwrap_or(u64::MAX);
     let time = options.seconds.map_or(Duration::MAX, Duration::from_secs);
     let mut number = 0;
-    while tally.deals < deals && start.elapsed() < time {
+    while tally.counts.deals < deals && start.elapsed() < time {
         let book = books::book(options.seed, number);
         if let Err(difference) = trial(options.seed, number, &book, &mut tally) {
             report_difference(options.seed, number, &book, &difference);
@@ -35,15 +35,19 @@ pub fn run(options: &Run) -> bool {
     println!();
     println!(
         "no difference; {seconds:.1} s, {:.0} deals per second",
-        tally.deals as f64 / seconds
+        tally.counts.deals as f64 / seconds
     );
     complete(&tally, options.require_all)
 }
 
 /// One book, then records, then operations; all of it from the seed and the book's number.
 fn trial(seed: u64, number: u64, book: &Book, tally: &mut Tally) -> Result<(), Difference> {
-    tally.books += 1;
-    *tally.books_by_kind.entry(book.kind.name()).or_default() += 1;
+    tally.counts.books += 1;
+    *tally
+        .counts
+        .books_by_kind
+        .entry(book.kind.name())
+        .or_default() += 1;
     let random = &mut Random::new(!seed, number);
     compare::book(random, &book.bytes, tally)?;
     for _ in 0..random.below(4) {
@@ -57,7 +61,7 @@ fn complete(tally: &Tally, require_all: bool) -> bool {
     let mut complete = true;
     for cells in tally.families() {
         for cell in cells.unlisted() {
-            println!("{}: {cell:?} is no case of document 01", cells.title);
+            println!("{}: {cell:?} is no case of the papers", cells.title);
             complete = false;
         }
         for cell in cells.never_met().take(10).filter(|_| require_all) {

@@ -1,60 +1,84 @@
-//! The books that are measured. Each is made from a fixed seed.
+//! The books that are measured. Each is made from a fixed seed, the same deals
+//! under each header that is measured.
 
 use std::path::Path;
 
 use hadlephoga::BOOK_LIMIT;
 
 use crate::deal::{deal, deal_with};
-use crate::line::{Line, HEADER};
+use crate::heading::header;
+use crate::line::Line;
 use crate::random::Random;
 
 /// A book and how much is in it.
 pub struct Measured {
     pub name: String,
+    pub edition: u64,
     pub book: Vec<u8>,
     pub deals: usize,
     /// Lines C and G.
     pub items: usize,
 }
 
-/// At most so many deals, and no more than a book can hold.
-fn filled(name: &str, most: usize, mut next: impl FnMut(&mut Random) -> Vec<Line>) -> Measured {
+/// One book for each header, the first of them first.
+pub type Books = Vec<Measured>;
+
+/// At most so many deals, and no more than fit under each of these headers: so
+/// books under header 1 alone are those that were measured before there was
+/// another.
+fn filled(
+    name: &str,
+    editions: &[u64],
+    most: usize,
+    mut next: impl FnMut(&mut Random) -> Vec<Line>,
+) -> Books {
     let random = &mut Random::new(2019, 22);
-    let mut book = HEADER.to_vec();
-    let (mut deals, mut items) = (0, 0);
-    while deals < most {
+    let mut books: Books = editions.iter().map(|of| empty(name, *of)).collect();
+    while books.iter().all(|book| book.deals < most) {
         let lines = next(random);
-        let text = Vec::from_iter(lines.iter().flat_map(Line::text));
-        if book.len() + text.len() > BOOK_LIMIT {
+        let text = |book: &Measured| -> Vec<u8> {
+            let texts = lines.iter().flat_map(|line| line.text(book.edition));
+            texts.collect()
+        };
+        let fits = |book: &Measured| book.book.len() + text(book).len() <= BOOK_LIMIT;
+        if !books.iter().all(fits) {
             break;
         }
-        book.extend(text);
-        deals += 1;
-        items += lines.len() - 1;
+        for book in &mut books {
+            book.book.extend(text(book));
+            book.deals += 1;
+            book.items += lines.len() - 1;
+        }
     }
+    books
+}
+
+fn empty(name: &str, edition: u64) -> Measured {
     Measured {
         name: name.to_string(),
-        book,
-        deals,
-        items,
+        edition,
+        book: header(edition).to_vec(),
+        deals: 0,
+        items: 0,
     }
 }
 
+/// A deal for any header: what it sends of it is the line's concern.
+fn with_items(items: u64) -> impl FnMut(&mut Random) -> Vec<Line> {
+    move |random| deal_with(random, 1, items, items)
+}
+
 /// Full books, as many whole deals as fit.
-pub fn full() -> Vec<Measured> {
-    let with = |name, items| {
-        filled(name, usize::MAX, move |random| {
-            deal_with(random, items, items)
-        })
-    };
+pub fn full(editions: &[u64]) -> Vec<Books> {
+    let with = |name, items| filled(name, editions, usize::MAX, with_items(items));
     vec![
         with("deals-alone", 0),
         with("1+1", 1),
         with("4+4", 4),
         with("16+16", 16),
-        filled("mixed", usize::MAX, deal),
-        filled("refused-at-first-line", usize::MAX, |random| {
-            let mut lines = deal_with(random, 4, 4);
+        filled("mixed", editions, usize::MAX, |random| deal(random, 1)),
+        filled("refused-at-first-line", editions, usize::MAX, |random| {
+            let mut lines = deal_with(random, 1, 4, 4);
             lines[0].fields[2] = 7; // No step: refusal 3.
             lines
         }),
@@ -62,8 +86,8 @@ pub fn full() -> Vec<Measured> {
 }
 
 /// A book of one item of collateral and one guarantee a deal, for each count of deals.
-pub fn by_deals() -> Vec<Measured> {
-    let of = |most: usize| filled("", most, |random| deal_with(random, 1, 1));
+pub fn by_deals(editions: &[u64]) -> Vec<Books> {
+    let of = |most: usize| filled("", editions, most, with_items(1));
     [1, 10, 100, usize::MAX].map(of).into()
 }
 
@@ -71,22 +95,19 @@ pub fn by_deals() -> Vec<Measured> {
 pub const DEALS_BY_ITEMS: usize = 32;
 
 /// A book of as many deals each, for each count of items in both lists.
-pub fn by_items() -> Vec<Measured> {
-    let of = |items| {
-        filled("", DEALS_BY_ITEMS, move |random| {
-            deal_with(random, items, items)
-        })
-    };
+pub fn by_items(editions: &[u64]) -> Vec<Books> {
+    let of = |items| filled("", editions, DEALS_BY_ITEMS, with_items(items));
     [0, 1, 2, 4, 8, 12, 16].map(of).into()
 }
 
 /// Writes the full books into a folder and prints their names.
-pub fn write(folder: &Path) -> Result<(), String> {
-    for measured in full() {
-        let file = folder.join(format!("{}.book", measured.name));
+pub fn write(folder: &Path, editions: &[u64]) -> Result<(), String> {
+    for measured in full(editions).into_iter().flatten() {
+        let name = format!("{}-headed-{}", measured.name, measured.edition);
+        let file = folder.join(format!("{name}.book"));
         std::fs::write(&file, &measured.book)
             .map_err(|error| format!("{}: {error}", file.display()))?;
-        println!("{}", measured.name);
+        println!("{name}");
     }
     Ok(())
 }
@@ -94,23 +115,72 @@ pub fn write(folder: &Path) -> Result<(), String> {
 #[cfg(test)]
 mod tests {
     use super::*;
-    use crate::line::count_deals;
+    use crate::heading::EDITIONS;
+    use crate::line::{count_deals, lines};
+
+    fn all(editions: &[u64]) -> impl Iterator<Item = Books> {
+        let books = full(editions).into_iter().chain(by_deals(editions));
+        books.chain(by_items(editions))
+    }
 
     #[test]
     fn books_hold_what_they_say() {
-        for measured in full() {
-            let room = BOOK_LIMIT - measured.book.len();
-            assert!(room < 2000, "{}: {room}", measured.name);
+        for editions in [&EDITIONS as &[u64], &[1], &[2]] {
+            for books in full(editions) {
+                let longest = books.iter().map(|measured| measured.book.len()).max();
+                let room = BOOK_LIMIT - longest.expect("a book for each header");
+                assert!(room < 2000, "{}: {room}", books[0].name);
+            }
+            for measured in all(editions).flatten() {
+                assert_eq!(count_deals(&measured.book), measured.deals);
+                assert!(measured.book.starts_with(header(measured.edition)));
+            }
+            let by_items = by_items(editions);
+            let mut by_items = by_items.iter().flatten();
+            assert!(by_items.all(|book| book.deals == DEALS_BY_ITEMS));
         }
-        for measured in full().into_iter().chain(by_deals()).chain(by_items()) {
-            assert_eq!(count_deals(&measured.book), measured.deals);
+    }
+
+    /// The same deals, but for the sovereign's steps, under both headers.
+    #[test]
+    fn both_headers_have_the_same_deals() {
+        for books in all(&EDITIONS) {
+            let [first, second] = &books[..] else {
+                panic!("a book for each header");
+            };
+            assert_eq!((first.deals, first.items), (second.deals, second.items));
+            let with = lines(&second.book).skip(1);
+            for (line, with) in lines(&first.book).skip(1).zip(with) {
+                let read = Line::read(with, 2).expect("a sound line");
+                assert_eq!(read.text(1), line);
+            }
         }
-        assert!(by_items().iter().all(|book| book.deals == DEALS_BY_ITEMS));
+    }
+
+    /// FNV-1a of each book, as the checkout before header 2 wrote it.
+    #[test]
+    fn books_under_header_1_alone_are_those_of_before() {
+        let hash = |bytes: &[u8]| {
+            bytes.iter().fold(0xCBF2_9CE4_8422_2325, |hash: u64, byte| {
+                (hash ^ u64::from(*byte)).wrapping_mul(0x0100_0000_01B3)
+            })
+        };
+        let hashes = full(&[1]).into_iter().flatten();
+        let hashes = Vec::from_iter(hashes.map(|measured| hash(&measured.book)));
+        let before = [
+            0xCA9E_3029_F376_9ECF,
+            0x2193_1945_F2EC_4E7E,
+            0xBB6D_01C3_8446_A9A0,
+            0x58A2_2A6D_1437_474E,
+            0xA23F_8D85_0057_EF22,
+            0x242A_D47A_759C_FBBC,
+        ];
+        assert_eq!(hashes, before);
     }
 
     #[test]
     fn deals_are_refused_only_where_they_should_be() {
-        for measured in full() {
+        for measured in full(&EDITIONS).into_iter().flatten() {
             let mut results = vec![0; measured.deals * 4];
             assert_eq!(
                 hadlephoga::answer_book(&measured.book, &mut results),

@@ -1,6 +1,6 @@
 //! Both implementations behind the same calls on the same numbers.
 
-use hadlephoga::{BookReply, Record, Terms, RECORD_LENGTH, REPORT_LENGTH};
+use hadlephoga::{BookReply, Collateral, Guarantee, Record, Terms, RECORD_LENGTH, REPORT_LENGTH};
 use reference::Outcome;
 
 #[derive(Clone, Copy, Debug, PartialEq, Eq)]
@@ -102,7 +102,7 @@ pub fn reference_add<const WIDTH: usize, Item: From<[u64; WIDTH]>>(
 /// by the second implementation.
 pub fn reference_refusal(letter: u8, fields: &[u64]) -> u64 {
     // A sovereign is lent no amount for a day.
-    const TERMS: [u64; Terms::LENGTH] = [0, 1, 0, 1, 1, 1, 1, 1, 0, 0];
+    const TERMS: [u64; Terms::LENGTH] = [0, 1, 0, 0, 1, 1, 1, 1, 1, 0, 0, 1];
     let mut record = [0; RECORD_LENGTH];
     if letter == b'D' {
         return reference_open(fields, &mut record);
@@ -115,91 +115,119 @@ pub fn reference_refusal(letter: u8, fields: &[u64]) -> u64 {
 }
 
 fn to_reference(record: &Record) -> reference::Record {
-    let terms = record.terms;
     reference::Record {
-        terms: reference::Terms {
-            amount: terms.amount,
-            class: terms.class,
-            step: terms.step,
-            currency: terms.currency,
-            kind: terms.kind,
-            interval: terms.interval,
-            residual: terms.residual_term,
-            lent_goods: terms.lent_type,
-            lent_step: terms.lent_step,
-            lent_life: terms.lent_issue_life,
-        },
+        terms: terms_to_reference(&record.terms),
         collateral_count: record.collateral_count,
-        collateral: record.collateral.map(|item| reference::Collateral {
-            amount: item.amount,
-            goods: item.goods,
-            step: item.step,
-            life: item.issue_life,
-            currency: item.currency,
-            residual: item.residual_term,
-            original: item.original_term,
-            lawful: item.lawful,
-            unrelated: item.unrelated,
-            unreflected: item.unreflected,
-            listed: item.listed,
-        }),
+        collateral: record.collateral.map(collateral_to_reference),
         guarantee_count: record.guarantee_count,
-        guarantees: record.guarantees.map(|item| reference::Guarantee {
-            amount: item.amount,
-            class: item.class,
-            step: item.step,
-            currency: item.currency,
-            residual: item.residual_term,
-            original: item.original_term,
-            lawful: item.lawful,
-            direct: item.direct,
-            unreflected: item.unreflected,
-        }),
+        guarantees: record.guarantees.map(guarantee_to_reference),
+    }
+}
+
+fn terms_to_reference(terms: &Terms) -> reference::Terms {
+    reference::Terms {
+        amount: terms.amount,
+        class: terms.class,
+        step: terms.step,
+        sovereign_step: terms.sovereign_step,
+        currency: terms.currency,
+        kind: terms.kind,
+        interval: terms.interval,
+        residual: terms.residual_term,
+        lent_goods: terms.lent_type,
+        lent_step: terms.lent_step,
+        lent_life: terms.lent_issue_life,
+        edition: terms.edition,
+    }
+}
+
+fn collateral_to_reference(item: Collateral) -> reference::Collateral {
+    reference::Collateral {
+        amount: item.amount,
+        goods: item.goods,
+        step: item.step,
+        life: item.issue_life,
+        currency: item.currency,
+        residual: item.residual_term,
+        original: item.original_term,
+        lawful: item.lawful,
+        unrelated: item.unrelated,
+        unreflected: item.unreflected,
+        listed: item.listed,
+    }
+}
+
+fn guarantee_to_reference(item: Guarantee) -> reference::Guarantee {
+    reference::Guarantee {
+        amount: item.amount,
+        class: item.class,
+        step: item.step,
+        sovereign_step: item.sovereign_step,
+        currency: item.currency,
+        residual: item.residual_term,
+        original: item.original_term,
+        lawful: item.lawful,
+        direct: item.direct,
+        unreflected: item.unreflected,
     }
 }
 
 /// A record that the second implementation read from a book.
 pub fn from_reference(record: &reference::Record) -> Record {
-    let terms = record.terms;
     Record {
-        terms: hadlephoga::Terms {
-            amount: terms.amount,
-            class: terms.class,
-            step: terms.step,
-            currency: terms.currency,
-            kind: terms.kind,
-            interval: terms.interval,
-            residual_term: terms.residual,
-            lent_type: terms.lent_goods,
-            lent_step: terms.lent_step,
-            lent_issue_life: terms.lent_life,
-        },
+        terms: terms_from_reference(&record.terms),
         collateral_count: record.collateral_count,
-        collateral: record.collateral.map(|item| hadlephoga::Collateral {
-            amount: item.amount,
-            goods: item.goods,
-            step: item.step,
-            issue_life: item.life,
-            currency: item.currency,
-            residual_term: item.residual,
-            original_term: item.original,
-            lawful: item.lawful,
-            unrelated: item.unrelated,
-            unreflected: item.unreflected,
-            listed: item.listed,
-        }),
+        collateral: record.collateral.map(collateral_from_reference),
         guarantee_count: record.guarantee_count,
-        guarantees: record.guarantees.map(|item| hadlephoga::Guarantee {
-            amount: item.amount,
-            class: item.class,
-            step: item.step,
-            currency: item.currency,
-            residual_term: item.residual,
-            original_term: item.original,
-            lawful: item.lawful,
-            direct: item.direct,
-            unreflected: item.unreflected,
-        }),
+        guarantees: record.guarantees.map(guarantee_from_reference),
+    }
+}
+
+fn terms_from_reference(terms: &reference::Terms) -> Terms {
+    Terms {
+        amount: terms.amount,
+        class: terms.class,
+        step: terms.step,
+        sovereign_step: terms.sovereign_step,
+        currency: terms.currency,
+        kind: terms.kind,
+        interval: terms.interval,
+        residual_term: terms.residual,
+        lent_type: terms.lent_goods,
+        lent_step: terms.lent_step,
+        lent_issue_life: terms.lent_life,
+        edition: terms.edition,
+    }
+}
+
+fn collateral_from_reference(item: reference::Collateral) -> Collateral {
+    Collateral {
+        amount: item.amount,
+        goods: item.goods,
+        step: item.step,
+        issue_life: item.life,
+        currency: item.currency,
+        residual_term: item.residual,
+        original_term: item.original,
+        lawful: item.lawful,
+        unrelated: item.unrelated,
+        unreflected: item.unreflected,
+        listed: item.listed,
+    }
+}
+
+fn guarantee_from_reference(item: reference::Guarantee) -> Guarantee {
+    Guarantee {
+        amount: item.amount,
+        class: item.class,
+        step: item.step,
+        sovereign_step: item.sovereign_step,
+        currency: item.currency,
+        residual_term: item.residual,
+        original_term: item.original,
+        lawful: item.lawful,
+        direct: item.direct,
+        unreflected: item.unreflected,
     }
 }
 

@@ -1,34 +1,21 @@
 //! A tally as a readable table.
 
+use crate::answers::OTHER;
 use crate::cells::Cells;
-use crate::tally::Tally;
+use crate::tally::{Counts, Tally};
 
 pub fn print(tally: &Tally) {
-    let row = |name: &str, count: u64| println!("{name:<44}{:>16}", grouped(count));
-    row("books", tally.books);
-    for (kind, count) in &tally.books_by_kind {
-        row(&format!("  {kind}"), *count);
-    }
-    row("books answered", tally.accepted_books);
-    row("deals", tally.deals);
-    row("  accepted", tally.accepted_deals);
-    for (letter, count) in &tally.lines {
-        row(&format!("lines {}", char::from(*letter)), *count);
-    }
-    row("records besides", tally.records);
-    row("  accepted", tally.accepted_records);
-    row("collateral valued", tally.valued_collateral);
-    row("guarantees valued", tally.valued_guarantees);
-    row("numbers compared", tally.numbers);
+    counted(&tally.counts);
     println!();
+    let answers = &tally.answers;
     let by_number = [
-        &tally.refused_books,
-        &tally.refused_records,
-        &tally.opened,
-        &tally.added_collateral,
-        &tally.added_guarantees,
-        &tally.collateral_grounds,
-        &tally.guarantee_grounds,
+        &answers.books,
+        &answers.records,
+        &answers.opened,
+        &answers.added_collateral,
+        &answers.added_guarantees,
+        &answers.collateral_grounds,
+        &answers.guarantee_grounds,
     ];
     for cells in by_number {
         println!("{}", cells.title);
@@ -36,13 +23,55 @@ pub fn print(tally: &Tally) {
             row(&format!("  {}", cell[0]), count);
         }
     }
-    lines_by_number(&tally.refused_lines);
+    lines_by_number(&answers.lines);
     println!();
-    println!("{:<68}{:>12}{:>12}", "cases", "met / all", "least often");
-    for cells in tally.families() {
-        let met = format!("{} / {}", cells.met(), cells.all());
-        println!("{:<68}{met:>12}{:>12}", cells.title, grouped(cells.least()));
+    cases(&tally.families());
+}
+
+fn row(name: &str, count: u64) {
+    println!("{name:<44}{:>16}", grouped(count));
+}
+
+fn counted(counts: &Counts) {
+    row("books", counts.books);
+    for (kind, count) in &counts.books_by_kind {
+        row(&format!("  {kind}"), *count);
     }
+    for (edition, count) in &counts.answered_books {
+        row(&format!("books answered, headed {edition}"), *count);
+    }
+    row("deals", counts.deals);
+    row("  accepted", counts.accepted_deals);
+    for (letter, count) in &counts.lines {
+        row(&format!("lines {}", char::from(*letter)), *count);
+    }
+    row("records besides", counts.records);
+    row("  accepted", counts.accepted_records);
+    row("collateral valued", counts.valued_collateral);
+    row("guarantees valued", counts.valued_guarantees);
+    row("numbers compared", counts.numbers);
+}
+
+/// A row for each family, and one for all of them.
+fn cases(families: &[&Cells]) {
+    let row = |title: &str, met: usize, all: usize, least: u64| {
+        let met = format!("{met} / {all}");
+        println!("{title:<70}{met:>12}{:>12}", grouped(least));
+    };
+    println!("{:<70}{:>12}{:>12}", "cases", "met / all", "least often");
+    for cells in families {
+        row(cells.title, cells.met(), cells.all(), cells.least());
+    }
+    row(
+        "all of them",
+        families.iter().map(|cells| cells.met()).sum(),
+        families.iter().map(|cells| cells.all()).sum(),
+        families
+            .iter()
+            .map(|cells| cells.least())
+            .min()
+            .unwrap_or(0),
+    );
 }
 
 /// A row for each refusal, a column for each letter.
@@ -51,7 +80,7 @@ fn lines_by_number(cells: &Cells) {
     println!("{:>8}{:>12}{:>12}{:>12}{:>12}", "", "D", "C", "G", "other");
     for number in (1..=8).chain([11]) {
         print!("{number:>8}");
-        for letter in [b'D', b'C', b'G', crate::tally::OTHER as u8] {
+        for letter in [b'D', b'C', b'G', OTHER as u8] {
             let wanted = [u64::from(letter), number];
             let found = cells.counts().find(|(cell, _)| cell[..2] == wanted);
             let count = found.map_or(String::from("-"), |(_, count)| grouped(count));

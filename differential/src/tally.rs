@@ -4,21 +4,27 @@ use std::collections::BTreeMap;
 
 use hadlephoga::{Collateral, Cover, Guarantee, Outcome, Record, Report, Terms};
 
-use crate::cells::{Cell, Cells};
+use crate::answers::{named, Answers};
+use crate::cells::Cells;
 use crate::days;
+use crate::editions::Editions;
+use crate::first_lines::FirstLines;
+use crate::floors;
+use crate::haircuts::Haircuts;
 use crate::line::{self, Line};
-use crate::values::has_step;
+use crate::parties::Parties;
+use crate::sovereign::Sovereigns;
 
-/// A letter that is none of D, C and G.
-pub const OTHER: u64 = b'?' as u64;
-
-pub struct Tally {
+/// How much there was of each.
+#[derive(Default)]
+pub struct Counts {
     pub books: u64,
     pub books_by_kind: BTreeMap<&'static str, u64>,
-    pub accepted_books: u64,
+    /// Answered books, by edition.
+    pub answered_books: BTreeMap<u64, u64>,
     pub deals: u64,
     pub accepted_deals: u64,
-    /// Lines of accepted books, by letter.
+    /// Lines of answered books, by letter.
     pub lines: BTreeMap<u8, u64>,
     /// Records that no book gave.
     pub records: u64,
@@ -26,119 +32,59 @@ pub struct Tally {
     pub valued_collateral: u64,
     pub valued_guarantees: u64,
     pub numbers: u64,
+}
+
+pub struct Tally {
+    pub counts: Counts,
     pub book_sizes: Cells,
-    pub refused_books: Cells,
-    pub refused_lines: Cells,
-    pub refused_records: Cells,
-    pub opened: Cells,
-    pub added_collateral: Cells,
-    pub added_guarantees: Cells,
+    pub answers: Answers,
     /// Of accepted deals and of refused lines.
     pub days: Cells,
     pub days_on_numbers: Cells,
-    pub collateral_grounds: Cells,
-    pub guarantee_grounds: Cells,
-    pub collateral_haircuts: Cells,
-    pub lent_haircuts: Cells,
-    pub currencies: Cells,
-    pub counterparties: Cells,
-    pub providers: Cells,
-    pub against: Cells,
+    pub haircuts: Haircuts,
+    pub parties: Parties,
+    pub floors: Cells,
+    pub first_lines: FirstLines,
+    pub editions: Editions,
+    pub sovereigns: Sovereigns,
 }
 
 impl Tally {
     pub fn new() -> Self {
         Tally {
-            books: 0,
-            books_by_kind: BTreeMap::new(),
-            accepted_books: 0,
-            deals: 0,
-            accepted_deals: 0,
-            lines: BTreeMap::new(),
-            records: 0,
-            accepted_records: 0,
-            valued_collateral: 0,
-            valued_guarantees: 0,
-            numbers: 0,
+            counts: Counts::default(),
             book_sizes: Cells::of_numbers(
                 "sizes of books: bytes at 65,536, deals at 2,048",
                 [65_535, 65_536, 65_537, 2047, 2048, 2049],
             ),
-            refused_books: Cells::of_numbers("refusals of books", [9, 10, 12, 13]),
-            refused_lines: Cells::new("refusals of lines by letter", refusals_of_lines()),
-            refused_records: Cells::of_numbers("refusals of records", [13, 40]),
-            opened: Cells::of_numbers("answers of opening on numbers", (0..=5).chain([11, 13])),
-            added_collateral: Cells::of_numbers(
-                "answers of adding collateral on numbers",
-                (0..=8).chain([11, 40]),
-            ),
-            added_guarantees: Cells::of_numbers(
-                "answers of adding guarantees on numbers",
-                (0..=8).chain([11, 40]),
-            ),
+            answers: Answers::new(),
             days: days::cells(
                 "days of accepted deals and refused lines: line, field, days, refusal",
             ),
             days_on_numbers: days::cells(
                 "days in opening and adding on numbers: line, field, days, refusal",
             ),
-            collateral_grounds: Cells::of_numbers("grounds of collateral", 21..=26),
-            guarantee_grounds: Cells::of_numbers(
-                "grounds of guarantees",
-                [21, 23, 25, 26, 27, 28, 29],
-            ),
-            collateral_haircuts: Cells::new(
-                "haircuts of collateral: type, step, life band, listed, kind",
-                haircuts(true),
-            ),
-            lent_haircuts: Cells::new(
-                "haircuts of goods lent: type, step, life band, kind",
-                haircuts(false),
-            ),
-            currencies: Cells::new(
-                "currency haircuts: collateral or guarantee, other currency, kind",
-                [1, 2].into_iter().flat_map(|list| {
-                    pairs([0, 1], 1..=3).map(move |[other, kind]| [list, other, kind, 0, 0])
-                }),
-            ),
-            counterparties: Cells::new(
-                "weights of counterparties: class, step",
-                counterparties().map(|[class, step]| [class, step, 0, 0, 0]),
-            ),
-            providers: Cells::new(
-                "weights of providers: class, step",
-                pairs(1..=3, 0..=6).map(|[class, step]| [class, step, 0, 0, 0]),
-            ),
-            against: Cells::new(
-                "each provider against each counterparty",
-                pairs(1..=3, 0..=6).flat_map(|[class, step]| {
-                    counterparties().map(move |[other, others]| [class, step, other, others, 0])
-                }),
-            ),
+            haircuts: Haircuts::new(),
+            parties: Parties::new(),
+            floors: floors::cells("floors: of whom, class, less to more; or what they change"),
+            first_lines: FirstLines::new(),
+            editions: Editions::new(),
+            sovereigns: Sovereigns::new(),
         }
     }
 
     /// Every family of cases that a run should meet.
-    pub fn families(&self) -> [&Cells; 17] {
-        [
-            &self.book_sizes,
-            &self.refused_books,
-            &self.refused_lines,
-            &self.refused_records,
-            &self.opened,
-            &self.added_collateral,
-            &self.added_guarantees,
-            &self.days,
-            &self.days_on_numbers,
-            &self.collateral_grounds,
-            &self.guarantee_grounds,
-            &self.collateral_haircuts,
-            &self.lent_haircuts,
-            &self.currencies,
-            &self.counterparties,
-            &self.providers,
-            &self.against,
-        ]
+    pub fn families(&self) -> Vec<&Cells> {
+        let mut families = vec![&self.book_sizes];
+        families.extend(self.answers.families());
+        families.extend([&self.days, &self.days_on_numbers]);
+        families.extend(self.haircuts.families());
+        families.extend(self.parties.families());
+        families.push(&self.floors);
+        families.extend(self.first_lines.families());
+        families.extend(self.editions.families());
+        families.extend(self.sovereigns.families());
+        families
     }
 
     /// A book with a header, whether it is answered or too long.
@@ -151,41 +97,52 @@ impl Tally {
         }
     }
 
-    /// A book that is answered, with its results.
-    pub fn answered_book(&mut self, book: &[u8], results: &[u64]) {
-        self.accepted_books += 1;
+    /// A book of this edition that is answered, with its results.
+    pub fn answered_book(&mut self, book: &[u8], edition: u64, results: &[u64]) {
+        *self.counts.answered_books.entry(edition).or_default() += 1;
         let lines: Vec<&[u8]> = line::lines(book).collect();
         for line in &lines[1..] {
-            *self.lines.entry(named(line[0])).or_default() += 1;
+            *self.counts.lines.entry(named(line[0])).or_default() += 1;
         }
         for answer in results.chunks_exact(4) {
-            self.deals += 1;
+            self.counts.deals += 1;
             match answer[1] {
-                0 => self.accepted_deals += 1,
-                refusal => self.refused_line(lines[answer[2] as usize - 1], refusal),
+                0 => {
+                    self.counts.accepted_deals += 1;
+                    self.first_lines.meet(lines[0], true);
+                }
+                refusal => self.refused_line(edition, lines[answer[2] as usize - 1], refusal),
             }
         }
     }
 
-    fn refused_line(&mut self, line: &[u8], refusal: u64) {
-        self.refused_lines.meet(&[named(line[0]).into(), refusal]);
-        if let Some(line) = Line::read(line) {
-            days::meet(&mut self.days, line.letter, &line.fields, refusal);
+    /// A book that is refused as a whole.
+    pub fn refused_book(&mut self, book: &[u8], refusal: u64) {
+        if let Some(first) = line::lines(book).next().filter(|_| refusal == 9) {
+            self.first_lines.meet(first, false);
+        }
+    }
+
+    fn refused_line(&mut self, edition: u64, text: &[u8], refusal: u64) {
+        self.answers.lines.meet(&[named(text[0]).into(), refusal]);
+        match Line::read(text, edition) {
+            Some(line) => {
+                days::meet(&mut self.days, line.letter, &line.fields, refusal);
+                self.sovereigns.meet_line(&line, refusal);
+            }
+            None => self.first_lines.meet_line(edition, text),
         }
     }
 
     /// The report of an accepted deal.
     pub fn report(&mut self, record: &Record, report: &Report) {
         let terms = &record.terms;
-        // A weight or a raised exposure shows where it makes a difference.
+        // A weight shows where it makes a difference.
         if report.rest > 0 {
-            self.counterparties.meet(&[terms.class, terms.step]);
+            self.parties.counterparty(terms);
+            floors::meet_counterparty(&mut self.floors, terms);
         }
-        if 0 < report.exposure && report.exposure < terms.amount {
-            let [goods, step, band] =
-                goods(terms.lent_type, terms.lent_step, terms.lent_issue_life);
-            self.lent_haircuts.meet(&[goods, step, band, terms.kind]);
-        }
+        self.haircuts.meet_lent(terms, report);
         days::meet(&mut self.days, b'D', &terms.to_numbers(), 0);
         let counted = record.collateral.iter().zip(&report.collateral);
         for (item, outcome) in counted.take(record.collateral_count as usize) {
@@ -195,112 +152,38 @@ impl Tally {
         for (item, cover) in counted.take(record.guarantee_count as usize) {
             self.guarantee(terms, item, cover);
         }
+        self.sovereigns.meet_past_count(record);
     }
 
     fn collateral(&mut self, terms: &Terms, item: &Collateral, outcome: &Outcome) {
         days::meet(&mut self.days, b'C', &item.to_numbers(), 0);
-        let met = match outcome {
-            Outcome::Valued(value) => {
-                self.valued_collateral += 1;
-                *value > 0
-            }
-            Outcome::LeftOut(ground) => {
-                self.collateral_grounds.meet(&[ground.0]);
-                ground.0 == 24
-            }
-        };
-        if met {
-            let [goods, step, band] = goods(item.goods, item.step, item.issue_life);
-            let listed = u64::from(goods == 4 && step == 0) * item.listed;
-            let cell = [goods, step, band, listed, terms.kind];
-            self.collateral_haircuts.meet(&cell);
+        match outcome {
+            Outcome::Valued(_) => self.counts.valued_collateral += 1,
+            Outcome::LeftOut(ground) => self.answers.collateral_grounds.meet(&[ground.0]),
         }
-        if outcome.value() > 0 {
-            let other = u64::from(item.currency != terms.currency);
-            self.currencies.meet(&[1, other, terms.kind]);
-        }
+        self.haircuts.meet_collateral(terms, item, outcome);
     }
 
     fn guarantee(&mut self, terms: &Terms, item: &Guarantee, cover: &Cover) {
         days::meet(&mut self.days, b'G', &item.to_numbers(), 0);
         let met = match cover.outcome {
             Outcome::Valued(_) => {
-                self.valued_guarantees += 1;
+                self.counts.valued_guarantees += 1;
                 cover.portion > 0
             }
             Outcome::LeftOut(ground) => {
-                self.guarantee_grounds.meet(&[ground.0]);
+                self.answers.guarantee_grounds.meet(&[ground.0]);
                 [28, 29].contains(&ground.0)
             }
         };
         if met {
-            self.providers.meet(&[item.class, item.step]);
-            let against = [item.class, item.step, terms.class, terms.step];
-            self.against.meet(&against);
+            self.parties.provider(terms, item);
+            floors::meet_provider(&mut self.floors, terms, item);
         }
         if cover.portion > 0 {
-            let other = u64::from(item.currency != terms.currency);
-            self.currencies.meet(&[2, other, terms.kind]);
+            self.haircuts.meet_guarantee(terms, item.currency);
         }
     }
-}
-
-fn named(letter: u8) -> u8 {
-    match letter {
-        b'D' | b'C' | b'G' => letter,
-        _ => OTHER as u8,
-    }
-}
-
-/// Opening gives 1 to 5, adding 1 to 8, reading a line 11.
-fn refusals_of_lines() -> impl Iterator<Item = Cell> {
-    let of = |letter: u8, last| {
-        let numbers = (1..=last).chain([11]);
-        numbers.map(move |number| [letter.into(), number, 0, 0, 0])
-    };
-    (of(b'D', 5).chain(of(b'C', 8)))
-        .chain(of(b'G', 8))
-        .chain([[OTHER, 11, 0, 0, 0]])
-}
-
-fn pairs(
-    ones: impl IntoIterator<Item = u64>,
-    others: impl IntoIterator<Item = u64> + Clone,
-) -> impl Iterator<Item = [u64; 2]> {
-    let with = move |one| others.clone().into_iter().map(move |other| [one, other]);
-    ones.into_iter().flat_map(with)
-}
-
-/// Every class and step of a counterparty; retail has step 0.
-fn counterparties() -> impl Iterator<Item = [u64; 2]> {
-    pairs(1..=3, 0..=6).chain([[4, 0]])
-}
-
-/// Type, step and life band, 0 where there is no life.
-fn goods(goods: u64, step: u64, life: u64) -> [u64; 3] {
-    let band = match life {
-        0 => 0,
-        1..=360 => 1,
-        361..=1800 => 2,
-        _ => 3,
-    };
-    [goods, step, band]
-}
-
-/// Every type, step, life band and kind; for collateral also both entries of
-/// the listing where it counts.
-fn haircuts(collateral: bool) -> impl Iterator<Item = Cell> {
-    let rows = (1..=9).flat_map(|goods| match has_step(goods) {
-        true => Vec::from_iter(pairs(0..=6, 1..=3).map(|[step, band]| [goods, step, band])),
-        false => vec![[goods, 0, 0]],
-    });
-    rows.flat_map(move |[goods, step, band]| {
-        let listed = u64::from(goods == 4 && step == 0);
-        pairs(0..=listed, 1..=3).filter_map(move |[listed, kind]| match collateral {
-            true => Some([goods, step, band, listed, kind]),
-            false => (listed == 0).then_some([goods, step, band, kind, 0]),
-        })
-    })
 }
 
 #[cfg(test)]
@@ -308,19 +191,16 @@ mod tests {
     use super::*;
 
     #[test]
-    fn every_case_is_listed() {
+    fn every_family_is_demanded() {
         let tally = Tally::new();
-        // Four types without step, five with seven steps and three bands.
-        assert_eq!(tally.lent_haircuts.all(), (4 + 5 * 7 * 3) * 3);
-        // Unrated bank debt besides, listed, in three bands.
-        assert_eq!(tally.collateral_haircuts.all(), (4 + 5 * 7 * 3 + 3) * 3);
-        assert_eq!(tally.counterparties.all(), 3 * 7 + 1);
-        assert_eq!(tally.providers.all(), 3 * 7);
-        assert_eq!(tally.against.all(), 21 * 22);
-        assert_eq!(tally.currencies.all(), 2 * 2 * 3);
-        assert_eq!(tally.refused_lines.all(), 6 + 9 + 9 + 1);
         // Eight edges and a day above the limit, in seven fields.
         assert_eq!(tally.days.all(), 7 * 9);
         assert_eq!(tally.days_on_numbers.all(), 7 * 9);
+        let families = tally.families();
+        assert_eq!(families.len(), 1 + 8 + 2 + 3 + 3 + 1 + 2 + 2 + 4);
+        assert_eq!(
+            families.iter().map(|cells| cells.all()).sum::<usize>(),
+            3033
+        );
     }
 }

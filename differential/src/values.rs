@@ -4,6 +4,7 @@
 use hadlephoga::{Collateral, Guarantee, Terms};
 
 use crate::random::Random;
+use crate::sovereign::right_steps;
 
 pub const AMOUNT_LIMIT: u64 = 1_000_000_000_000;
 pub const DAYS_LIMIT: u64 = 100_000;
@@ -126,7 +127,19 @@ fn goods(random: &mut Random, eligible: u64) -> (u64, u64, u64) {
     (goods, step, life)
 }
 
-pub fn terms(random: &mut Random) -> Terms {
+/// Of a book, or of a deal that is in none. Edition 2 tells more apart.
+pub fn edition(random: &mut Random) -> u64 {
+    random.weighted(&[(2, 1), (3, 2)])
+}
+
+/// Any that fits the class. It is drawn aside, so that the deals of a seed are
+/// those of document 01 but for this step.
+fn sovereign_step(random: &Random, class: u64) -> u64 {
+    let steps = right_steps(class);
+    random.aside().between(*steps.start(), *steps.end())
+}
+
+pub fn terms(random: &mut Random, edition: u64) -> Terms {
     let class = random.weighted(&[(3, 1), (3, 2), (5, 3), (1, 4)]);
     let step = match class {
         4 => 0,
@@ -144,6 +157,7 @@ pub fn terms(random: &mut Random) -> Terms {
         amount: amount(random),
         class,
         step,
+        sovereign_step: sovereign_step(random, class),
         currency: random.pick(CURRENCIES),
         kind: random.between(1, 3),
         interval,
@@ -151,6 +165,7 @@ pub fn terms(random: &mut Random) -> Terms {
         lent_type,
         lent_step,
         lent_issue_life,
+        edition,
     }
 }
 
@@ -180,10 +195,13 @@ pub fn guarantee(random: &mut Random, deal: &Terms, items: u64) -> Guarantee {
         false => random.between(0, 6),
     };
     let (residual_term, original_term) = cover_terms(random, deal);
+    let amount = item_amount(random, deal, items);
+    let class = random.between(1, 3);
     Guarantee {
-        amount: item_amount(random, deal, items),
-        class: random.between(1, 3),
+        amount,
+        class,
         step,
+        sovereign_step: sovereign_step(random, class),
         currency: item_currency(random, deal),
         residual_term,
         original_term,
@@ -214,7 +232,7 @@ mod tests {
         let mut met = days::cells("");
         for number in 0..5000 {
             let random = &mut Random::new(13, number);
-            let terms = terms(random);
+            let terms = terms(random, 2);
             days::meet(&mut met, b'D', &terms.to_numbers(), 0);
             for _ in 0..3 {
                 let item = collateral(random, &terms, 3);

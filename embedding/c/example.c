@@ -1,5 +1,6 @@
-/* Answers the sample book of document 01, builds and reports its first deal, and
- * shows what a refused call gives. */
+/* Compares the layouts, answers the sample book of document 01, builds and reports
+ * its first deal, shows a deal that the floor of edition 2 reaches, and what a
+ * refused call gives. */
 #include <inttypes.h>
 #include <stdio.h>
 #include <string.h>
@@ -14,11 +15,11 @@ static const char sample[] =
     "D\t500\t2\t7\t840\t1\t1\t30\t1\t0\t0\n"
     "D\t900\t4\t0\t978\t3\t1\t90\t1\t0\t0\n";
 
-static void answer_sample(void)
+static void answer(const char *book)
 {
   struct hadlephoga_answer answers[8];
   uint64_t deals;
-  uint64_t refusal = hadlephoga_answers((const uint8_t *)sample, strlen(sample), answers, 8, &deals);
+  uint64_t refusal = hadlephoga_answers((const uint8_t *)book, strlen(book), answers, 8, &deals);
 
   printf("book: refusal %" PRIu64 ", deals %" PRIu64 "\n", refusal, deals);
   for (uint64_t i = 0; i < deals; i++) {
@@ -35,7 +36,7 @@ static void answer_sample(void)
 static const struct hadlephoga_terms terms = {
     .amount = 1000000, .counterparty_class = 3, .step = 0, .currency = 978,
     .kind = 3, .interval = 1, .residual_term = 1800,
-    .lent_type = 1, .lent_step = 0, .lent_issue_life = 0,
+    .lent_type = 1, .lent_step = 0, .lent_issue_life = 0, .edition = 1,
 };
 static const struct hadlephoga_collateral bonds[] = {
     {.amount = 400000, .type = 2, .step = 1, .issue_life = 720, .currency = 978,
@@ -78,9 +79,39 @@ static void report_first(const struct hadlephoga_deal *first)
   printf("rest %" PRIu64 ", weighted amount %" PRIu64 "\n", report.rest, report.weighted_amount);
 }
 
+/* A loan to an unrated bank whose sovereign is at step 6, with a guarantee of
+ * another unrated bank, whose sovereign is at step 3. By themselves both weigh 50,
+ * so that the guarantee is no help; under edition 2 the counterparty weighs its
+ * sovereign's 150, and the provider still 50. */
+static const char floored[] =
+    "CRM\t2\n"
+    "D\t1000000\t2\t0\t6\t978\t3\t1\t1800\t1\t0\t0\n"
+    "G\t400000\t2\t0\t3\t978\t1800\t1800\t1\t1\t1\n";
+
+static void show_floor(uint64_t edition)
+{
+  struct hadlephoga_terms to_bank = terms;
+  struct hadlephoga_guarantee of_bank = guarantee;
+  struct hadlephoga_deal deal;
+  struct hadlephoga_report report;
+
+  to_bank.counterparty_class = of_bank.provider_class = 2;
+  to_bank.step = of_bank.step = 0;
+  to_bank.sovereign_step = 6;
+  of_bank.sovereign_step = 3;
+  of_bank.amount = 400000;
+  to_bank.edition = edition;
+  if (hadlephoga_open_with(&to_bank, &deal) != 0 || hadlephoga_add_guarantee_to(&deal, &of_bank) != 0 ||
+      hadlephoga_report_of(&deal, &report) != 0)
+    return;
+  printf("edition %" PRIu64 ": ground %" PRIu64 ", portion %" PRIu64 ", rest %" PRIu64 ", weighted amount %" PRIu64 "\n",
+         edition, report.guarantees[0].ground, report.guarantees[0].portion, report.rest, report.weighted_amount);
+}
+
 static void show_refusals(const struct hadlephoga_deal *first)
 {
   struct hadlephoga_terms unknown_class = terms;
+  struct hadlephoga_terms unknown_edition = terms;
   struct hadlephoga_deal deal;
   struct hadlephoga_report report;
   struct hadlephoga_answer answers[2];
@@ -90,6 +121,8 @@ static void show_refusals(const struct hadlephoga_deal *first)
   unknown_class.counterparty_class = 5;
   printf("unknown class: refusal %" PRIu64 "\n", hadlephoga_open_with(&unknown_class, &deal));
   printf("its record: refusal %" PRIu64 "\n", hadlephoga_report_of(&deal, &report));
+  unknown_edition.edition = 3;
+  printf("unknown edition: refusal %" PRIu64 "\n", hadlephoga_open_with(&unknown_edition, &deal));
   printf("short report: refusal %" PRIu64 "\n",
          hadlephoga_report_deal((const uint64_t *)first, HADLEPHOGA_RECORD_LENGTH,
                                 short_list, HADLEPHOGA_REPORT_LENGTH - 1));
@@ -103,9 +136,16 @@ int main(void)
 {
   struct hadlephoga_deal first;
 
-  answer_sample();
+  if (hadlephoga_layout() != HADLEPHOGA_LAYOUT) {
+    fprintf(stderr, "the library has layout %" PRIu64 ", the header %d\n", hadlephoga_layout(), HADLEPHOGA_LAYOUT);
+    return 1;
+  }
+  answer(sample);
   first = build_first();
   report_first(&first);
+  answer(floored);
+  show_floor(1);
+  show_floor(2);
   show_refusals(&first);
   return 0;
 }

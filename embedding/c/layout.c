@@ -51,12 +51,13 @@ static void guarantee_from(const struct hadlephoga_guarantee *item, uint64_t fir
   IS(item->amount, first);
   IS(item->provider_class, first + 1);
   IS(item->step, first + 2);
-  IS(item->currency, first + 3);
-  IS(item->residual_term, first + 4);
-  IS(item->original_term, first + 5);
-  IS(item->lawful, first + 6);
-  IS(item->direct, first + 7);
-  IS(item->unreflected, first + 8);
+  IS(item->sovereign_step, first + 3);
+  IS(item->currency, first + 4);
+  IS(item->residual_term, first + 5);
+  IS(item->original_term, first + 6);
+  IS(item->lawful, first + 7);
+  IS(item->direct, first + 8);
+  IS(item->unreflected, first + 9);
 }
 
 static void terms_from(const struct hadlephoga_terms *terms, uint64_t first)
@@ -64,16 +65,16 @@ static void terms_from(const struct hadlephoga_terms *terms, uint64_t first)
   IS(terms->amount, first);
   IS(terms->counterparty_class, first + 1);
   IS(terms->step, first + 2);
-  IS(terms->currency, first + 3);
-  IS(terms->kind, first + 4);
-  IS(terms->interval, first + 5);
-  IS(terms->residual_term, first + 6);
-  IS(terms->lent_type, first + 7);
-  IS(terms->lent_step, first + 8);
-  IS(terms->lent_issue_life, first + 9);
+  IS(terms->sovereign_step, first + 3);
+  IS(terms->currency, first + 4);
+  IS(terms->kind, first + 5);
+  IS(terms->interval, first + 6);
+  IS(terms->residual_term, first + 7);
+  IS(terms->lent_type, first + 8);
+  IS(terms->lent_step, first + 9);
+  IS(terms->lent_issue_life, first + 10);
+  IS(terms->edition, first + 11);
 }
-
-#define LAST_ITEM (HADLEPHOGA_ITEMS - 1)
 
 static void places_of_deal(void)
 {
@@ -82,15 +83,16 @@ static void places_of_deal(void)
   const uint64_t guarantee_count = collateral + HADLEPHOGA_ITEMS * HADLEPHOGA_COLLATERAL_WIDTH;
   const uint64_t guarantees = guarantee_count + 1;
   struct hadlephoga_deal deal;
+  size_t i;
 
   fill(&deal, sizeof deal, HADLEPHOGA_RECORD_LENGTH);
   terms_from(&deal.terms, 0);
   IS(deal.collateral_count, collateral_count);
-  collateral_from(&deal.collateral[0], collateral);
-  collateral_from(&deal.collateral[LAST_ITEM], collateral + LAST_ITEM * HADLEPHOGA_COLLATERAL_WIDTH);
   IS(deal.guarantee_count, guarantee_count);
-  guarantee_from(&deal.guarantees[0], guarantees);
-  guarantee_from(&deal.guarantees[LAST_ITEM], guarantees + LAST_ITEM * HADLEPHOGA_GUARANTEE_WIDTH);
+  for (i = 0; i < HADLEPHOGA_ITEMS; i++) {
+    collateral_from(&deal.collateral[i], collateral + i * HADLEPHOGA_COLLATERAL_WIDTH);
+    guarantee_from(&deal.guarantees[i], guarantees + i * HADLEPHOGA_GUARANTEE_WIDTH);
+  }
 }
 
 static void outcome_from(const struct hadlephoga_outcome *outcome, uint64_t first)
@@ -112,13 +114,14 @@ static void places_of_report(void)
   const uint64_t guarantees = collateral + HADLEPHOGA_ITEMS * HADLEPHOGA_OUTCOME_WIDTH;
   const uint64_t rest = guarantees + HADLEPHOGA_ITEMS * HADLEPHOGA_COVER_WIDTH;
   struct hadlephoga_report report;
+  size_t i;
 
   fill(&report, sizeof report, HADLEPHOGA_REPORT_LENGTH);
   IS(report.exposure, 0);
-  outcome_from(&report.collateral[0], collateral);
-  outcome_from(&report.collateral[LAST_ITEM], collateral + LAST_ITEM * HADLEPHOGA_OUTCOME_WIDTH);
-  cover_from(&report.guarantees[0], guarantees);
-  cover_from(&report.guarantees[LAST_ITEM], guarantees + LAST_ITEM * HADLEPHOGA_COVER_WIDTH);
+  for (i = 0; i < HADLEPHOGA_ITEMS; i++) {
+    outcome_from(&report.collateral[i], collateral + i * HADLEPHOGA_OUTCOME_WIDTH);
+    cover_from(&report.guarantees[i], guarantees + i * HADLEPHOGA_COVER_WIDTH);
+  }
   IS(report.rest, rest);
   IS(report.weighted_amount, rest + 1);
 }
@@ -134,14 +137,20 @@ static void places_of_answer(void)
   IS(answer.weighted_amount, 3);
 }
 
-/* What the library itself takes for a record and a report. */
+/* The layout that is described here, and what the library itself takes for
+ * terms, a record and a report. */
 static void lengths(void)
 {
-  static const uint64_t terms[HADLEPHOGA_TERMS_WIDTH] = {1, 3, 0, 978, 3, 1, 90, 1, 0, 0};
+  static const uint64_t terms[HADLEPHOGA_TERMS_WIDTH] = {1, 3, 0, 0, 978, 3, 1, 90, 1, 0, 0, 1};
   uint64_t record[HADLEPHOGA_RECORD_LENGTH + 1];
   uint64_t report[HADLEPHOGA_REPORT_LENGTH];
 
+  IS(hadlephoga_layout(), HADLEPHOGA_LAYOUT);
+  IS(HADLEPHOGA_LAYOUT, 2);
+  IS(HADLEPHOGA_RECORD_LENGTH, 350);
+  IS(HADLEPHOGA_REPORT_LENGTH, 83);
   IS(hadlephoga_open_deal(terms, HADLEPHOGA_TERMS_WIDTH, record, HADLEPHOGA_RECORD_LENGTH - 1), 13);
+  IS(hadlephoga_open_deal(terms, HADLEPHOGA_TERMS_WIDTH - 1, record, HADLEPHOGA_RECORD_LENGTH), 11);
   IS(hadlephoga_open_deal(terms, HADLEPHOGA_TERMS_WIDTH, record, HADLEPHOGA_RECORD_LENGTH), 0);
   IS(hadlephoga_report_deal(record, HADLEPHOGA_RECORD_LENGTH + 1, report, HADLEPHOGA_REPORT_LENGTH), 40);
   IS(hadlephoga_report_deal(record, HADLEPHOGA_RECORD_LENGTH, report, HADLEPHOGA_REPORT_LENGTH - 1), 13);
@@ -177,6 +186,7 @@ static struct hadlephoga_guarantee promise(uint64_t amount)
   item.amount = amount;
   item.provider_class = 1;
   item.step = 3;
+  item.sovereign_step = 0;
   item.currency = 978;
   item.residual_term = 2000;
   item.original_term = 2500;
@@ -187,70 +197,93 @@ static struct hadlephoga_guarantee promise(uint64_t amount)
 }
 
 /* n is 6 + 5 - 1 = 10, so that table haircuts stay as they are. */
+static struct hadlephoga_terms repo(void)
+{
+  struct hadlephoga_terms terms;
+
+  terms.amount = 1000000;
+  terms.counterparty_class = 3;
+  terms.step = 5;
+  terms.sovereign_step = 4;
+  terms.currency = 978;
+  terms.kind = 1;
+  terms.interval = 6;
+  terms.residual_term = 1800;
+  terms.lent_type = 4;
+  terms.lent_step = 2;
+  terms.lent_issue_life = 720;
+  terms.edition = 2;
+  return terms;
+}
+
+static void pledge_all_grounds(struct hadlephoga_deal *deal)
+{
+  deal->collateral_count = 8;
+  deal->collateral[0] = paper(10001);
+  deal->collateral[0].lawful = 0;
+  deal->collateral[1] = paper(10002);
+  deal->collateral[1].unrelated = 0;
+  deal->collateral[2] = paper(10003);
+  deal->collateral[2].unreflected = 0;
+  deal->collateral[3] = paper(10004);
+  deal->collateral[3].step = 0;
+  deal->collateral[3].listed = 0;
+  deal->collateral[4] = paper(10005);
+  deal->collateral[4].residual_term = 300;
+  deal->collateral[4].original_term = 359;
+  deal->collateral[5] = paper(10006);
+  deal->collateral[5].residual_term = 90;
+  deal->collateral[5].original_term = 400;
+  deal->collateral[6] = paper(300000);
+  deal->collateral[6].step = 0;
+  deal->collateral[6].issue_life = 360;
+  deal->collateral[6].currency = 840;
+  deal->collateral[6].residual_term = 900;
+  deal->collateral[6].original_term = 1080;
+  deal->collateral[7] = paper(500000);
+  deal->collateral[7].type = 2;
+}
+
+static void guarantee_all_grounds(struct hadlephoga_deal *deal)
+{
+  deal->guarantee_count = 9;
+  deal->guarantees[0] = promise(20001);
+  deal->guarantees[0].lawful = 0;
+  deal->guarantees[1] = promise(20002);
+  deal->guarantees[1].direct = 0;
+  deal->guarantees[2] = promise(20003);
+  deal->guarantees[2].unreflected = 0;
+  deal->guarantees[3] = promise(20004);
+  deal->guarantees[3].provider_class = 3;
+  deal->guarantees[3].step = 0;
+  deal->guarantees[3].sovereign_step = 2;
+  deal->guarantees[4] = promise(20005);
+  deal->guarantees[4].residual_term = 300;
+  deal->guarantees[4].original_term = 359;
+  deal->guarantees[5] = promise(20006);
+  deal->guarantees[5].residual_term = 90;
+  deal->guarantees[5].original_term = 400;
+  deal->guarantees[6] = promise(20007);
+  deal->guarantees[6].provider_class = 3;
+  deal->guarantees[6].step = 5;
+  deal->guarantees[6].sovereign_step = 1;
+}
+
+/* The two that are recognised: a sovereign, and an other entity whose own step
+ * decides and not its sovereign's. */
 static struct hadlephoga_deal deal_of_all_grounds(uint64_t last_but_one)
 {
   struct hadlephoga_deal deal;
 
   memset(&deal, 0, sizeof deal);
-  deal.terms.amount = 1000000;
-  deal.terms.counterparty_class = 3;
-  deal.terms.step = 5;
-  deal.terms.currency = 978;
-  deal.terms.kind = 1;
-  deal.terms.interval = 6;
-  deal.terms.residual_term = 1800;
-  deal.terms.lent_type = 4;
-  deal.terms.lent_step = 2;
-  deal.terms.lent_issue_life = 720;
-
-  deal.collateral_count = 8;
-  deal.collateral[0] = paper(10001);
-  deal.collateral[0].lawful = 0;
-  deal.collateral[1] = paper(10002);
-  deal.collateral[1].unrelated = 0;
-  deal.collateral[2] = paper(10003);
-  deal.collateral[2].unreflected = 0;
-  deal.collateral[3] = paper(10004);
-  deal.collateral[3].step = 0;
-  deal.collateral[3].listed = 0;
-  deal.collateral[4] = paper(10005);
-  deal.collateral[4].residual_term = 300;
-  deal.collateral[4].original_term = 359;
-  deal.collateral[5] = paper(10006);
-  deal.collateral[5].residual_term = 90;
-  deal.collateral[5].original_term = 400;
-  deal.collateral[6] = paper(300000);
-  deal.collateral[6].step = 0;
-  deal.collateral[6].issue_life = 360;
-  deal.collateral[6].currency = 840;
-  deal.collateral[6].residual_term = 900;
-  deal.collateral[6].original_term = 1080;
-  deal.collateral[7] = paper(500000);
-  deal.collateral[7].type = 2;
-
-  deal.guarantee_count = 9;
-  deal.guarantees[0] = promise(20001);
-  deal.guarantees[0].lawful = 0;
-  deal.guarantees[1] = promise(20002);
-  deal.guarantees[1].direct = 0;
-  deal.guarantees[2] = promise(20003);
-  deal.guarantees[2].unreflected = 0;
-  deal.guarantees[3] = promise(20004);
-  deal.guarantees[3].provider_class = 3;
-  deal.guarantees[3].step = 0;
-  deal.guarantees[4] = promise(20005);
-  deal.guarantees[4].residual_term = 300;
-  deal.guarantees[4].original_term = 359;
-  deal.guarantees[5] = promise(20006);
-  deal.guarantees[5].residual_term = 90;
-  deal.guarantees[5].original_term = 400;
-  deal.guarantees[6] = promise(20007);
-  deal.guarantees[6].provider_class = 3;
-  deal.guarantees[6].step = 5;
+  deal.terms = repo();
+  pledge_all_grounds(&deal);
+  guarantee_all_grounds(&deal);
   deal.guarantees[7] = promise(last_but_one);
   deal.guarantees[8] = promise(250000);
   deal.guarantees[8].provider_class = 3;
   deal.guarantees[8].step = 1;
+  deal.guarantees[8].sovereign_step = 6;
   deal.guarantees[8].currency = 840;
   deal.guarantees[8].residual_term = 1000;
   deal.guarantees[8].original_term = 1200;
@@ -269,16 +302,12 @@ static void reported(const struct hadlephoga_deal *deal, struct marked_report *m
   IS(marked->mark, MARK);
 }
 
-static void meanings(void)
+static void grounds(const struct hadlephoga_report *report)
 {
   static const uint64_t collateral_grounds[HADLEPHOGA_ITEMS] = {21, 22, 23, 24, 25, 26};
   static const uint64_t guarantee_grounds[HADLEPHOGA_ITEMS] = {21, 27, 23, 28, 25, 26, 29};
-  struct hadlephoga_deal deal = deal_of_all_grounds(400000);
-  struct marked_report marked;
-  const struct hadlephoga_report *report = &marked.report;
   size_t i;
 
-  reported(&deal, &marked);
   for (i = 0; i < HADLEPHOGA_ITEMS; i++) {
     IS(report->collateral[i].ground, collateral_grounds[i]);
     IS(report->guarantees[i].ground, guarantee_grounds[i]);
@@ -289,6 +318,16 @@ static void meanings(void)
       IS(report->guarantees[i].portion, 0);
     }
   }
+}
+
+static void meanings(void)
+{
+  struct hadlephoga_deal deal = deal_of_all_grounds(400000);
+  struct marked_report marked;
+  const struct hadlephoga_report *report = &marked.report;
+
+  reported(&deal, &marked);
+  grounds(report);
   /* 300,000 less 20,000 and 80,000 millionths is 270,000; x 810 / 1,710. */
   IS(report->collateral[6].value, 127894);
   /* 500,000 less 30,000 millionths. */
@@ -313,14 +352,30 @@ static void meanings(void)
   IS(report->rest, 177101);
   /* (120,005 x 20 + 150,000 x 50 + 177,101 x 150) / 100 is 364,652.5. */
   IS(report->weighted_amount, 364653);
+}
 
-  /* Cash has no step; a list has no seventeenth place. */
-  deal.terms.lent_type = 1;
-  IS(hadlephoga_report_of(&deal, &marked.report), 40);
-  IS(marked.mark, MARK);
-  deal = deal_of_all_grounds(150000);
-  deal.guarantee_count = HADLEPHOGA_ITEMS + 1;
-  IS(hadlephoga_report_of(&deal, &marked.report), 40);
+/* Records that nothing accepts: cash has no step, a list no seventeenth place,
+ * a sovereign no sovereign, the tables no third edition. */
+static void records_not_accepted(void)
+{
+  struct hadlephoga_deal deal = deal_of_all_grounds(150000);
+  struct hadlephoga_deal wrong[6];
+  struct marked_report marked;
+  size_t i;
+
+  for (i = 0; i < sizeof wrong / sizeof wrong[0]; i++)
+    wrong[i] = deal;
+  wrong[0].terms.lent_type = 1;
+  wrong[1].guarantee_count = HADLEPHOGA_ITEMS + 1;
+  wrong[2].terms.sovereign_step = 7;
+  wrong[3].guarantees[7].sovereign_step = 1;
+  wrong[4].terms.edition = 0;
+  wrong[5].terms.edition = 3;
+  reported(&deal, &marked);
+  for (i = 0; i < sizeof wrong / sizeof wrong[0]; i++) {
+    IS(hadlephoga_report_of(&wrong[i], &marked.report), 40);
+    IS(marked.mark, MARK);
+  }
 }
 
 /* Opening and adding: the library builds the record that was filled by hand. */
@@ -359,6 +414,86 @@ static void built(void)
                               HADLEPHOGA_GUARANTEE_WIDTH - 1), 11);
   IS((uint64_t)memcmp(&lent.deal, &deal, sizeof deal), 0);
   IS(lent.mark, MARK);
+}
+
+/* The country's weight: what a loan of 1,000 to an unrated party of this class
+ * weighs, or what the guarantee of an unrated bank makes it weigh. */
+
+static uint64_t weighs(uint64_t edition, uint64_t party_class, uint64_t sovereign_step)
+{
+  struct hadlephoga_deal deal;
+  struct hadlephoga_report report;
+  struct hadlephoga_terms terms = repo();
+
+  terms.amount = 1000;
+  terms.edition = edition;
+  terms.counterparty_class = party_class;
+  terms.step = 0;
+  terms.sovereign_step = sovereign_step;
+  IS(hadlephoga_open_with(&terms, &deal), 0);
+  IS(hadlephoga_report_of(&deal, &report), 0);
+  return report.weighted_amount / 10;
+}
+
+static uint64_t provides(uint64_t edition, uint64_t sovereign_step)
+{
+  struct hadlephoga_deal deal;
+  struct hadlephoga_report report;
+  struct hadlephoga_terms terms = repo();
+  struct hadlephoga_guarantee guarantee = promise(1000);
+
+  terms.amount = 1000;
+  terms.edition = edition;
+  guarantee.provider_class = 2;
+  guarantee.step = 0;
+  guarantee.sovereign_step = sovereign_step;
+  IS(hadlephoga_open_with(&terms, &deal), 0);
+  IS(hadlephoga_add_guarantee_to(&deal, &guarantee), 0);
+  IS(hadlephoga_report_of(&deal, &report), 0);
+  IS(report.guarantees[0].ground, report.weighted_amount == 1500 ? 29 : 0);
+  return report.weighted_amount / 10;
+}
+
+static void floors(void)
+{
+  static const uint64_t bank[7] = {100, 50, 50, 50, 100, 100, 150};
+  static const uint64_t corporate[7] = {100, 100, 100, 100, 100, 100, 150};
+  uint64_t step;
+
+  for (step = 0; step <= 6; step++) {
+    IS(weighs(1, 2, step), 50);
+    IS(weighs(2, 2, step), bank[step]);
+    IS(weighs(1, 3, step), 100);
+    IS(weighs(2, 3, step), corporate[step]);
+    IS(provides(1, step), 50);
+    IS(provides(2, step), bank[step]);
+  }
+  IS(weighs(2, 4, 0), 75);
+}
+
+/* Each refused by its own number. */
+static void refused_sovereigns_and_editions(void)
+{
+  struct hadlephoga_deal deal = deal_of_all_grounds(400000);
+  struct hadlephoga_guarantee guarantee = promise(1);
+  struct hadlephoga_deal refused;
+  struct hadlephoga_terms terms = repo();
+
+  terms.sovereign_step = 7;
+  IS(hadlephoga_open_with(&terms, &refused), 3);
+  terms.counterparty_class = 1;
+  terms.sovereign_step = 1;
+  IS(hadlephoga_open_with(&terms, &refused), 3);
+  terms.edition = 3;
+  IS(hadlephoga_open_with(&terms, &refused), 2);
+  terms.edition = 0;
+  IS(hadlephoga_open_with(&terms, &refused), 2);
+  guarantee.sovereign_step = 1;
+  IS(hadlephoga_add_guarantee_to(&deal, &guarantee), 3);
+  guarantee.provider_class = 3;
+  IS(hadlephoga_add_guarantee_to(&deal, &guarantee), 0);
+  guarantee.sovereign_step = 7;
+  IS(hadlephoga_add_guarantee_to(&deal, &guarantee), 3);
 }
 
 /* Days: a life or term of 100,000 stands whole in each of its fields, one of
@@ -429,22 +564,27 @@ static void longest_days(void)
 
 /* Books */
 
+/* The same two deals under either header. */
 static const char two_deals[] =
     "CRM\t1\n"
     "D\t1000\t3\t5\t978\t3\t1\t1800\t1\t0\t0\n"
     "D\t500\t2\t7\t840\t1\t1\t30\t1\t0\t0\n";
+static const char two_deals_with_sovereigns[] =
+    "CRM\t2\n"
+    "D\t1000\t3\t5\t6\t978\t3\t1\t1800\t1\t0\t0\n"
+    "D\t500\t2\t7\t1\t840\t1\t1\t30\t1\t0\t0\n";
 
-static void answers_of_two_deals(void)
+static void answers_of_two_deals(const char *text)
 {
-  const uint8_t *book = (const uint8_t *)two_deals;
+  const uint8_t *book = (const uint8_t *)text;
   struct hadlephoga_answer answers[3];
   uint64_t deals = MARK;
 
   memset(answers, 0xA5, sizeof answers);
-  IS(hadlephoga_answers(book, sizeof two_deals - 1, answers, 1, &deals), 13);
+  IS(hadlephoga_answers(book, strlen(text), answers, 1, &deals), 13);
   IS(deals, 0);
   IS(answers[0].serial, MARK);
-  IS(hadlephoga_answers(book, sizeof two_deals - 1, answers, 3, &deals), 0);
+  IS(hadlephoga_answers(book, strlen(text), answers, 3, &deals), 0);
   IS(deals, 2);
   /* A corporate at step 5 weighs 150. */
   IS(answers[0].serial, 1);
@@ -492,9 +632,13 @@ int main(void)
   places_of_report();
   places_of_answer();
   meanings();
+  records_not_accepted();
   built();
+  floors();
+  refused_sovereigns_and_editions();
   longest_days();
-  answers_of_two_deals();
+  answers_of_two_deals(two_deals);
+  answers_of_two_deals(two_deals_with_sovereigns);
   longest_book();
   return 0;
 }

@@ -2,7 +2,9 @@
  * Credit-risk relief of a book of deals, or of one deal: haircuts, recognised
  * values, covered portions and weighted amounts under CRE20 and CRE22 (2019).
  *
- * Link with libhadlephoga.a. All calls take any bytes and any numbers: the
+ * Link with libhadlephoga.a, and compare HADLEPHOGA_LAYOUT with
+ * hadlephoga_layout() before anything else: where they differ, header and
+ * library do not belong together. All calls take any bytes and any numbers: the
  * answer to every input is a figure or a refusal by number. A pointer is not
  * null, points to as many bytes or numbers as the length beside it says, and
  * nothing that is written overlaps anything else that is passed. The library holds no state and
@@ -18,14 +20,40 @@
 extern "C" {
 #endif
 
+/*
+ * The layout of numbers that this header describes. Layouts until now:
+ *
+ *   1  document 01: terms 10, guarantee 9, record 332. It had no number that
+ *      could be asked for, so a program that has this header does not link with
+ *      a library of that layout.
+ *   2  a party's sovereign's step behind its step, the edition behind the terms:
+ *      terms 12, guarantee 10, record 350. Refusal 2 now falls on an unknown
+ *      edition too, 3 on a wrong sovereign's step. A program built for layout 1
+ *      is refused, by 11, 13 or 40, wherever it passes terms, a guarantee or a
+ *      record.
+ *
+ * The rule of change. The layout is how many numbers there are of terms, of an
+ * item, of a record and of a report, their order and what each of them means; the
+ * arguments of the operations; and what the numbers of refusals and grounds mean.
+ * Whenever any of it changes, the number rises by 1, in the same landing, and the
+ * list above says what changed. While the number stays, a program that was built
+ * for it gets, for every call that was taken, the answer it would have got before;
+ * what was refused may be taken later. An operation that is new beside the others
+ * leaves the number alone.
+ */
+#define HADLEPHOGA_LAYOUT 2
+
+/* The layout of numbers that the library has. */
+uint64_t hadlephoga_layout(void);
+
 #define HADLEPHOGA_BOOK_LIMIT 65536 /* bytes of a book */
 #define HADLEPHOGA_ITEMS 16         /* places of collateral, and of guarantees */
 
 /* How many numbers there are of each. */
 #define HADLEPHOGA_ANSWER_LENGTH 4 /* that answer a deal of a book */
-#define HADLEPHOGA_TERMS_WIDTH 10
+#define HADLEPHOGA_TERMS_WIDTH 12
 #define HADLEPHOGA_COLLATERAL_WIDTH 11
-#define HADLEPHOGA_GUARANTEE_WIDTH 9
+#define HADLEPHOGA_GUARANTEE_WIDTH 10
 #define HADLEPHOGA_OUTCOME_WIDTH 2 /* that report an item of collateral */
 #define HADLEPHOGA_COVER_WIDTH 3   /* that report a guarantee */
 
@@ -42,7 +70,7 @@ extern "C" {
  * Answers a book. Returns 0, or the refusal of the whole book, the first met:
  *
  *   10  longer than 65,536 bytes
- *    9  the first line is not the header: C, R, M, tab, 1, line feed
+ *    9  the first line is no header: C, R, M, tab, the edition (1 or 2), line feed
  *   12  there is a second line, and it does not begin with D and a tab
  *   13  fewer than four numbers in results for each deal
  *
@@ -105,10 +133,10 @@ uint64_t hadlephoga_report_deal(const uint64_t *record, size_t record_length,
 
 /* Refusals of a line of a book, of opening and of adding: 11 malformed (unknown
  * letter, wrong number of fields, bad number, no line feed), before all others; 6
- * that list is full; 1 amount over the limit; 2 unknown class, kind or type; 3
- * step above 6, or not 0 where 0 is due; 4 currency; 5 interval, term or issue
- * life outside its range; 7 residual term above original; 8 a condition neither 0
- * nor 1. */
+ * that list is full; 1 amount over the limit; 2 unknown edition, class, kind or
+ * type; 3 step or sovereign's step above 6, or not 0 where 0 is due; 4 currency; 5
+ * interval, term or issue life outside its range; 7 residual term above original;
+ * 8 a condition neither 0 nor 1. */
 
 /* The answer to a deal of a book. */
 struct hadlephoga_answer {
@@ -121,6 +149,12 @@ struct hadlephoga_answer {
 /* An amount is 0 to 1,000,000,000,000; a step 1 to 6, or 0 unrated; a currency
  * its ISO 4217 number, 1 to 999; a term or life 1 to 100,000 days, an item's
  * residual term not above its original one; a condition 1 met or 0 not met. */
+
+/* The edition is what the header of a book says, 1 or 2. Under edition 2 an
+ * unrated bank or corporate weighs at least what its sovereign of incorporation
+ * weighs, whose step is the sovereign's step: 0 for the class sovereign and for
+ * retail, under either edition. Under edition 1 it has no effect, and the lines
+ * of a book leave it out, so that it reads 0. */
 
 /* Goods: 1 cash, 2 sovereign debt, 3 other issuers' debt, 4 bank debt, 5
  * securitisation, 6 re-securitisation, 7 main index equity, 8 other listed
@@ -146,6 +180,7 @@ struct hadlephoga_guarantee {
   uint64_t amount;
   uint64_t provider_class; /* 1 sovereign, 2 bank or securities firm, 3 other entity */
   uint64_t step;
+  uint64_t sovereign_step; /* of the provider's sovereign */
   uint64_t currency;
   uint64_t residual_term;
   uint64_t original_term;
@@ -159,6 +194,7 @@ struct hadlephoga_terms {
   uint64_t amount;
   uint64_t counterparty_class; /* 1 sovereign, 2 bank, 3 corporate, 4 retail (step 0) */
   uint64_t step;
+  uint64_t sovereign_step; /* of the counterparty's sovereign */
   uint64_t currency;
   uint64_t kind;     /* 1 repo-style, 2 other capital market, 3 secured lending */
   uint64_t interval; /* of revaluation, 1 to 250 business days */
@@ -166,6 +202,7 @@ struct hadlephoga_terms {
   uint64_t lent_type; /* a loan lends cash: 1, 0, 0 */
   uint64_t lent_step;
   uint64_t lent_issue_life;
+  uint64_t edition; /* 1, or 2 with the floor of the sovereign's weight */
 };
 
 /* A deal's record. Places at or past a count are not looked at. */
@@ -189,7 +226,7 @@ struct hadlephoga_outcome {
 
 /* What a guarantee is worth, and the part of E* that it covers. Grounds: 21, 27
  * not direct, 23, 28 other entity unrated, 25, 26, 29 provider's weight not
- * below the counterparty's. */
+ * below the counterparty's, both with their floors. */
 struct hadlephoga_cover {
   uint64_t value;
   uint64_t ground;

@@ -1,5 +1,6 @@
-//! The calls, and the only unsafe code.
+//! The calls, and the only unsafe code. Each compares the layouts first.
 
+use crate::layout::compare_once;
 use crate::{Collateral, Guarantee, Record, Refusal, Report, Terms, RECORD_LENGTH, REPORT_LENGTH};
 
 /// Bytes of the longest book.
@@ -9,6 +10,7 @@ pub const ANSWER_LENGTH: usize = 4;
 
 // The declarations of include/hadlephoga.h.
 extern "C" {
+    fn hadlephoga_layout() -> u64;
     fn hadlephoga_answer_book(
         book: *const u8,
         book_length: usize,
@@ -42,6 +44,12 @@ extern "C" {
     ) -> u64;
 }
 
+/// The number of the layout that the linked library has.
+pub fn layout() -> u64 {
+    // SAFETY: it takes nothing and gives a number.
+    unsafe { hadlephoga_layout() }
+}
+
 /// The reply to a book: its refusal or 0, and the count of deals written.
 #[derive(Clone, Copy, Debug, PartialEq, Eq)]
 pub struct BookReply {
@@ -66,6 +74,7 @@ pub fn answer_book(book: &[u8], results: &mut [u64]) -> Result<usize, Refusal> {
 
 /// [`answer_book`] with the reply as the library gives it.
 pub fn answer_book_numbers(book: &[u8], results: &mut [u64]) -> BookReply {
+    compare_once();
     // No count of deals: one that is not written would show.
     let mut deals = u64::MAX;
     // SAFETY: each pointer and length are those of a slice that lives through
@@ -89,6 +98,7 @@ pub fn answer_book_numbers(book: &[u8], results: &mut [u64]) -> BookReply {
 /// written), else 11 where `terms` has not exactly theirs, else 1 to 5 or 0. The
 /// record is written from the front, zeros with a refusal, and nothing behind it.
 pub fn open_numbers(terms: &[u64], record: &mut [u64]) -> u64 {
+    compare_once();
     // SAFETY: each pointer and length are those of a slice that lives through
     // the call; `record` is borrowed alone, so it does not overlap `terms`.
     // The library reads and writes inside the lengths it is given.
@@ -116,6 +126,7 @@ pub fn open(terms: &Terms) -> Result<Record, Refusal> {
 /// else 40 where `record` has not exactly a record's or is not accepted, else 6,
 /// 1 to 5, 7, 8 or 0. With a refusal `record` is untouched.
 pub fn add_collateral_numbers(record: &mut [u64], item: &[u64]) -> u64 {
+    compare_once();
     // SAFETY: as in `open_numbers`, with `record` borrowed alone.
     unsafe {
         hadlephoga_add_collateral(record.as_mut_ptr(), record.len(), item.as_ptr(), item.len())
@@ -125,6 +136,7 @@ pub fn add_collateral_numbers(record: &mut [u64], item: &[u64]) -> u64 {
 /// [`add_collateral_numbers`] of a guarantee, in the layout of
 /// [`Guarantee::to_numbers`].
 pub fn add_guarantee_numbers(record: &mut [u64], item: &[u64]) -> u64 {
+    compare_once();
     // SAFETY: as in `open_numbers`, with `record` borrowed alone.
     unsafe {
         hadlephoga_add_guarantee(record.as_mut_ptr(), record.len(), item.as_ptr(), item.len())
@@ -160,6 +172,7 @@ fn added(record: &mut Record, numbers: &[u64; RECORD_LENGTH], refusal: u64) -> R
 /// `record` has not exactly a record's or is not accepted (a report of zeros is
 /// written), else 0.
 pub fn report_numbers(record: &[u64], report: &mut [u64]) -> u64 {
+    compare_once();
     // SAFETY: each pointer and length are those of a slice that lives through
     // the call; `report` is borrowed alone, so it does not overlap `record`.
     // The library reads and writes inside the lengths it is given.

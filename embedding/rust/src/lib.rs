@@ -3,7 +3,9 @@
 //! A book of deals is answered by [`answer_book`], four numbers a deal. One
 //! deal is opened by [`open`], gets its items by [`add_collateral`] and
 //! [`add_guarantee`], and is reported by [`report`], with the value or ground of
-//! every item. All answer every input with figures or a [`Refusal`]; nothing panics.
+//! every item. All answer every input with figures or a [`Refusal`]; nothing
+//! panics, save the first call in a program that was linked with a library of
+//! another layout of numbers than [`LAYOUT`].
 //!
 //! ```
 //! let book = b"CRM\t1\nD\t900\t4\t0\t978\t3\t1\t90\t1\t0\t0\n";
@@ -11,8 +13,19 @@
 //! assert_eq!(hadlephoga::answer_book(book, &mut results), Ok(1));
 //! assert_eq!(results, [1, 0, 900, 675]);
 //! ```
+//!
+//! An unrated bank weighs 50, but under edition 2 no less than its sovereign,
+//! which weighs 150 at step 6:
+//!
+//! ```
+//! let book = b"CRM\t2\nD\t900\t2\t0\t6\t978\t3\t1\t90\t1\t0\t0\n";
+//! let mut results = [0; 4];
+//! assert_eq!(hadlephoga::answer_book(book, &mut results), Ok(1));
+//! assert_eq!(results, [1, 0, 900, 1350]);
+//! ```
 
 mod calls;
+mod layout;
 mod numbers;
 mod record;
 mod refusal;
@@ -20,9 +33,10 @@ mod report;
 
 pub use calls::{
     add_collateral, add_collateral_numbers, add_guarantee, add_guarantee_numbers, answer_book,
-    answer_book_numbers, open, open_numbers, report, report_numbers, BookReply, ANSWER_LENGTH,
-    BOOK_LIMIT,
+    answer_book_numbers, layout, open, open_numbers, report, report_numbers, BookReply,
+    ANSWER_LENGTH, BOOK_LIMIT,
 };
+pub use layout::LAYOUT;
 pub use record::{Collateral, Guarantee, Record, Terms, ITEMS, RECORD_LENGTH};
 pub use refusal::Refusal;
 pub use report::{Cover, Ground, Outcome, Report, COVER_WIDTH, OUTCOME_WIDTH, REPORT_LENGTH};

@@ -16,6 +16,8 @@ numbers! {
         /// Of the counterparty: 1 sovereign, 2 bank, 3 corporate, 4 retail.
         class,
         step,
+        /// Of the counterparty's sovereign; 0 for classes 1 and 4.
+        sovereign_step,
         currency,
         /// 1 repo-style, 2 other capital market, 3 secured lending.
         kind,
@@ -26,6 +28,9 @@ numbers! {
         lent_type,
         lent_step,
         lent_issue_life,
+        /// What the header of a book says: 1, or 2 with the floor of the
+        /// sovereign's weight.
+        edition,
     }
 }
 
@@ -62,6 +67,8 @@ numbers! {
         /// Of the provider: 1 sovereign, 2 bank or securities firm, 3 other entity.
         class,
         step,
+        /// Of the provider's sovereign; 0 for class 1.
+        sovereign_step,
         currency,
         residual_term,
         original_term,

@@ -11,14 +11,14 @@ impl fmt::Display for Refusal {
     fn fmt(&self, out: &mut fmt::Formatter) -> fmt::Result {
         let words = match self.0 {
             1 => "amount over the limit",
-            2 => "unknown class, kind or type",
-            3 => "step above 6, or not 0 where 0 is due",
+            2 => "unknown edition, class, kind or type",
+            3 => "step or sovereign's step above 6, or not 0 where 0 is due",
             4 => "currency outside 1 to 999",
             5 => "interval, term or issue life outside its range",
             6 => "list is full",
             7 => "residual term above the original one",
             8 => "condition neither 0 nor 1",
-            9 => "first line is not the header",
+            9 => "first line is no header",
             10 => "book longer than 65,536 bytes",
             11 => "malformed line",
             12 => "second line opens no deal",

@@ -35,7 +35,15 @@ fn header() {
         b"" as &[u8],
         b"CRM\t1",
         b"CRM\t1\r\n",
-        b"CRM\t2\n",
+        b"CRM\t0\n",
+        b"CRM\t3\n",
+        b"CRM\t02\n",
+        b"CRM\t12\n",
+        b"CRM\t\n",
+        b"CRM\n",
+        b"CRM\t2\t\n",
+        b"CRM\t2\tS\n",
+        b"CRM\t2",
         b"CRM 1\n",
         b"\n",
         &SAMPLE[6..],
@@ -43,6 +51,7 @@ fn header() {
         assert_eq!(refused(book, 12), 9);
     }
     assert_eq!(answer_book(b"CRM\t1\n", &mut []), Ok(0));
+    assert_eq!(answer_book(b"CRM\t2\n", &mut []), Ok(0));
 }
 
 #[test]
@@ -53,6 +62,9 @@ fn second_line() {
         b"CRM\t1\nD 1\n",
         b"CRM\t1\nd\t1\n",
         b"CRM\t1\nCRM\t1\n",
+        b"CRM\t2\n\n",
+        b"CRM\t2\nCRM\t2\n",
+        b"CRM\t2\nG\t1\nD\t1\n",
         b"CRM\t1\nC\t1\nD\t1\n",
     ] {
         assert_eq!(refused(book, 0), 12);

@@ -1,6 +1,7 @@
 //! Days of life and cover, from both sides of their limit, in each of the seven
 //! fields that hold them and in every place of both lists.
 
+use crate::lines::{collateral_line, guarantee_line, headed, terms_line};
 use crate::sample::{CASH, GUARANTEE, LOAN};
 use hadlephoga::{
     add_collateral, add_collateral_numbers, add_guarantee, add_guarantee_numbers, answer_book,
@@ -17,9 +18,9 @@ const EDGES: [u64; 8] = [
 const ABOVE: [u64; 4] = [LONGEST + 1, (1 << 17) + 1800, (1 << 32) + 1800, u64::MAX];
 
 /// Where the fields stand in terms and in items, and these in a record.
-const TERMS_DAYS: [usize; 2] = [6, 9];
+const TERMS_DAYS: [usize; 2] = [7, 10];
 const COLLATERAL_DAYS: [usize; 3] = [3, 5, 6];
-const GUARANTEE_DAYS: [usize; 2] = [4, 5];
+const GUARANTEE_DAYS: [usize; 2] = [5, 6];
 const COLLATERAL_START: usize = Terms::LENGTH + 1;
 const GUARANTEE_START: usize = COLLATERAL_START + ITEMS * Collateral::LENGTH + 1;
 
@@ -263,24 +264,22 @@ fn residual_above_original() {
 
 /// A book of the repo with one stock and one guarantee, with these days in one
 /// field of one of its lines, the header being line 1.
-fn book(line: usize, field: usize, days: u64) -> Vec<u8> {
-    let mut lines = [
-        (b'D', REPO.to_numbers().to_vec()),
-        (b'C', STOCK.to_numbers().to_vec()),
-        (b'G', PROMISE.to_numbers().to_vec()),
-    ];
-    lines[line - 2].1[field] = days;
-    let mut book = b"CRM\t1\n".to_vec();
-    for (letter, fields) in lines {
-        book.push(letter);
-        book.extend(
-            fields
-                .iter()
-                .flat_map(|field| format!("\t{field}").into_bytes()),
-        );
-        book.push(b'\n');
+fn book(edition: u64, line: usize, field: usize, days: u64) -> Vec<u8> {
+    let terms = Terms { edition, ..REPO };
+    let (mut stock, mut promise) = (STOCK.to_numbers(), PROMISE.to_numbers());
+    let mut terms = terms.to_numbers();
+    match line {
+        2 => terms[field] = days,
+        3 => stock[field] = days,
+        _ => promise[field] = days,
     }
-    book
+    let guarantee = Guarantee::from_numbers(&promise);
+    let lines = [
+        terms_line(&Terms::from_numbers(&terms)),
+        collateral_line(&Collateral::from_numbers(&stock)),
+        guarantee_line(edition, &guarantee),
+    ];
+    headed(edition, &lines)
 }
 
 #[test]
@@ -293,16 +292,19 @@ fn books() {
     for (line, fields) in fields {
         for field in fields {
             let answered = |days| {
-                let mut results = [0; 4];
-                assert_eq!(answer_book(&book(line, *field, days), &mut results), Ok(1));
-                results
+                [1, 2].map(|edition| {
+                    let mut results = [0; 4];
+                    let book = book(edition, line, *field, days);
+                    assert_eq!(answer_book(&book, &mut results), Ok(1));
+                    results
+                })
             };
             for days in EDGES {
                 // 1,040,000 - 48,000, not above the amount, of which 10,000 weigh 0.
-                assert_eq!(answered(days), [1, 0, 992_000, 982_000], "{days}");
+                assert_eq!(answered(days), [[1, 0, 992_000, 982_000]; 2], "{days}");
             }
             for days in [LONGEST + 1, (1 << 17) + 1800, (1 << 32) + 1800] {
-                assert_eq!(answered(days), [1, 5, line as u64, 0], "{days}");
+                assert_eq!(answered(days), [[1, 5, line as u64, 0]; 2], "{days}");
             }
         }
     }

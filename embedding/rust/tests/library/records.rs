@@ -18,8 +18,8 @@ fn is_refused(record: &Record) -> bool {
 }
 
 #[test]
-fn layout() {
-    assert_eq!(RECORD_LENGTH, 332);
+fn layout_of_terms_and_counts() {
+    assert_eq!(RECORD_LENGTH, 350);
     assert_eq!(REPORT_LENGTH, 83);
     let numbers = std::array::from_fn(|place| place as u64 + 1);
     let record = Record::from_numbers(&numbers);
@@ -27,16 +27,26 @@ fn layout() {
         amount: 1,
         class: 2,
         step: 3,
-        currency: 4,
-        kind: 5,
-        interval: 6,
-        residual_term: 7,
-        lent_type: 8,
-        lent_step: 9,
-        lent_issue_life: 10,
+        sovereign_step: 4,
+        currency: 5,
+        kind: 6,
+        interval: 7,
+        residual_term: 8,
+        lent_type: 9,
+        lent_step: 10,
+        lent_issue_life: 11,
+        edition: 12,
     };
     assert_eq!(record.terms, terms);
-    assert_eq!(record.collateral_count, 11);
+    assert_eq!(record.collateral_count, 13);
+    assert_eq!(record.guarantee_count, 190);
+    assert_eq!(record.to_numbers(), numbers);
+}
+
+#[test]
+fn layout_of_items() {
+    let numbers = std::array::from_fn(|place| place as u64 + 1);
+    let record = Record::from_numbers(&numbers);
     let item = |first| Collateral {
         amount: first,
         goods: first + 1,
@@ -50,23 +60,22 @@ fn layout() {
         unreflected: first + 9,
         listed: first + 10,
     };
-    assert_eq!(record.collateral[0], item(12));
-    assert_eq!(record.collateral[15], item(177));
-    assert_eq!(record.guarantee_count, 188);
+    assert_eq!(record.collateral[0], item(14));
+    assert_eq!(record.collateral[15], item(179));
     let item = |first| Guarantee {
         amount: first,
         class: first + 1,
         step: first + 2,
-        currency: first + 3,
-        residual_term: first + 4,
-        original_term: first + 5,
-        lawful: first + 6,
-        direct: first + 7,
-        unreflected: first + 8,
+        sovereign_step: first + 3,
+        currency: first + 4,
+        residual_term: first + 5,
+        original_term: first + 6,
+        lawful: first + 7,
+        direct: first + 8,
+        unreflected: first + 9,
     };
-    assert_eq!(record.guarantees[0], item(189));
-    assert_eq!(record.guarantees[15], item(324));
-    assert_eq!(record.to_numbers(), numbers);
+    assert_eq!(record.guarantees[0], item(191));
+    assert_eq!(record.guarantees[15], item(341));
 }
 
 #[test]
@@ -98,7 +107,7 @@ fn record_lists_of_other_lengths() {
     let numbers = record().to_numbers();
     let mut longer = numbers.to_vec();
     longer.push(0);
-    for list in [&[] as &[u64], &numbers[..331], &longer] {
+    for list in [&[] as &[u64], &numbers[..RECORD_LENGTH - 1], &longer] {
         let mut report = [MARK; 90];
         assert_eq!(report_numbers(list, &mut report), 40);
         assert_eq!(report[..REPORT_LENGTH], [0; REPORT_LENGTH]);
@@ -167,97 +176,69 @@ fn largest_number_in_each_field() {
 fn places_past_a_count_do_not_matter() {
     let clean = record();
     let mut record = record();
-    record.collateral[1..].fill(Collateral::from_numbers(&[u64::MAX; 11]));
-    record.guarantees[1..].fill(Guarantee::from_numbers(&[u64::MAX; 9]));
+    record.collateral[1..].fill(Collateral::from_numbers(&[u64::MAX; Collateral::LENGTH]));
+    record.guarantees[1..].fill(Guarantee::from_numbers(&[u64::MAX; Guarantee::LENGTH]));
     assert_eq!(report(&record), report(&clean));
     assert!(report(&clean).is_ok());
 }
 
+const LIMIT: u64 = 1_000_000_000_000;
+
+/// The loan with one of its numbers changed; places as in the layout.
+fn with_term(place: usize, number: u64) -> Terms {
+    let mut numbers = LOAN.to_numbers();
+    numbers[place] = number;
+    Terms::from_numbers(&numbers)
+}
+
 #[test]
-fn fields_just_outside_their_ranges() {
-    let limit = 1_000_000_000_000;
-    assert!(report(&Record::new(
-        Terms {
-            amount: limit,
-            ..LOAN
-        },
-        &[],
-        &[]
-    ))
-    .is_ok());
-    for terms in [
-        Terms {
-            amount: limit + 1,
-            ..LOAN
-        },
-        Terms { class: 5, ..LOAN },
-        Terms { class: 0, ..LOAN },
-        Terms { step: 7, ..LOAN },
-        Terms {
-            class: 4,
-            step: 1,
-            ..LOAN
-        },
-        Terms {
-            currency: 0,
-            ..LOAN
-        },
-        Terms {
-            currency: 1000,
-            ..LOAN
-        },
-        Terms { kind: 4, ..LOAN },
-        Terms {
-            interval: 0,
-            ..LOAN
-        },
-        Terms {
-            interval: 251,
-            ..LOAN
-        },
-        Terms {
-            residual_term: 100_001,
-            ..LOAN
-        },
-        Terms {
-            lent_type: 10,
-            ..LOAN
-        },
-        Terms {
-            lent_step: 1,
-            ..LOAN
-        },
-        Terms {
-            lent_issue_life: 1,
-            ..LOAN
-        },
+fn terms_just_outside_their_ranges() {
+    let largest = Record::new(with_term(0, LIMIT), &[], &[]);
+    assert!(report(&largest).is_ok());
+    for (place, number) in [
+        (0, LIMIT + 1),
+        (1, 5),
+        (1, 0),
+        (2, 7),
+        (3, 7),
+        (4, 0),
+        (4, 1000),
+        (5, 4),
+        (6, 0),
+        (6, 251),
+        (7, 100_001),
+        (8, 10),
+        (9, 1),
+        (10, 1),
+        (11, 0),
+        (11, 3),
     ] {
+        let terms = with_term(place, number);
         assert!(is_refused(&Record::new(terms, &[], &[])), "{terms:?}");
     }
-    for item in [
-        Collateral {
-            residual_term: 1801,
-            ..CASH
-        },
-        Collateral { goods: 2, ..CASH },
-        Collateral { listed: 2, ..CASH },
-    ] {
+    for (step, sovereign_step) in [(1, 0), (0, 1)] {
+        let retail = Terms {
+            class: 4,
+            step,
+            sovereign_step,
+            ..LOAN
+        };
+        assert!(is_refused(&Record::new(retail, &[], &[])), "{retail:?}");
+    }
+}
+
+#[test]
+fn items_just_outside_their_ranges() {
+    for (place, number) in [(5, 1801), (1, 2), (10, 2)] {
+        let mut item = CASH.to_numbers();
+        item[place] = number;
+        let item = Collateral::from_numbers(&item);
         assert!(is_refused(&Record::new(LOAN, &[item], &[])), "{item:?}");
     }
-    for item in [
-        Guarantee {
-            class: 4,
-            ..GUARANTEE
-        },
-        Guarantee {
-            original_term: 1799,
-            ..GUARANTEE
-        },
-        Guarantee {
-            direct: 2,
-            ..GUARANTEE
-        },
-    ] {
+    for (place, number) in [(1, 4), (3, 1), (6, 1799), (8, 2)] {
+        let mut item = GUARANTEE.to_numbers();
+        item[place] = number;
+        let item = Guarantee::from_numbers(&item);
         assert!(is_refused(&Record::new(LOAN, &[], &[item])), "{item:?}");
     }
 }

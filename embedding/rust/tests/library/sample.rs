@@ -17,6 +17,7 @@ pub const LOAN: Terms = Terms {
     amount: 1_000_000,
     class: 3,
     step: 0,
+    sovereign_step: 0,
     currency: 978,
     kind: 3,
     interval: 1,
@@ -24,6 +25,7 @@ pub const LOAN: Terms = Terms {
     lent_type: 1,
     lent_step: 0,
     lent_issue_life: 0,
+    edition: 1,
 };
 
 /// Cash of 1,000,000 for the loan's whole term.
@@ -46,6 +48,7 @@ pub const GUARANTEE: Guarantee = Guarantee {
     amount: 200_000,
     class: 1,
     step: 1,
+    sovereign_step: 0,
     currency: 978,
     residual_term: 1800,
     original_term: 1800,

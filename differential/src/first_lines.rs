@@ -1,0 +1,135 @@
+//! First lines of books: both headers, and the lines next to them that are none.
+
+use crate::cells::{cell, Cells};
+use crate::heading::{other, EDITIONS};
+use crate::line::Line;
+use crate::random::Random;
+
+/// First lines by their second field: a digit for itself, and these.
+const TWO_DIGITS: u64 = 10;
+const EMPTY: u64 = 11;
+const NONE: u64 = 12;
+/// A third field behind a header's two.
+const THIRD_FIELD: u64 = 13;
+
+const NO_HEADERS: &[&[u8]] = &[
+    b"CRM\t0\n",
+    b"CRM\t3\n",
+    b"CRM\t4\n",
+    b"CRM\t5\n",
+    b"CRM\t6\n",
+    b"CRM\t7\n",
+    b"CRM\t8\n",
+    b"CRM\t9\n",
+    b"CRM\t02\n",
+    b"CRM\t10\n",
+    b"CRM\t12\n",
+    b"CRM\t21\n",
+    b"CRM\t\n",
+    b"CRM\n",
+    b"CRM\t1\t\n",
+    b"CRM\t1\t2\n",
+    b"CRM\t2\t\n",
+    b"CRM\t2\tS\n",
+];
+
+/// A first line that is nearly a header.
+pub fn no_header(random: &mut Random) -> &'static [u8] {
+    random.pick(NO_HEADERS)
+}
+
+pub struct FirstLines {
+    /// Headers of books that have a deal which is not refused, and first lines
+    /// that are refused.
+    said: Cells,
+    /// Lines of the other header, by header and letter.
+    lines_of_other: Cells,
+}
+
+impl FirstLines {
+    pub fn new() -> Self {
+        let lines = EDITIONS.map(|edition| b"DG".map(|letter| cell(&[edition, letter.into()])));
+        FirstLines {
+            said: Cells::of_numbers(
+                "first lines: digit, two digits, empty, none, a third field",
+                0..=THIRD_FIELD,
+            ),
+            lines_of_other: Cells::new(
+                "malformed lines of the other header: header, line",
+                lines.into_iter().flatten(),
+            ),
+        }
+    }
+
+    pub fn families(&self) -> [&Cells; 2] {
+        [&self.said, &self.lines_of_other]
+    }
+
+    /// Counts the first line of a book with an accepted deal, or of one that is
+    /// refused for it.
+    pub fn meet(&mut self, first_line: &[u8], accepted: bool) {
+        let said = match first_line.strip_prefix(b"CRM") {
+            Some([b'\t', digit @ b'0'..=b'9', b'\n']) => u64::from(digit - b'0'),
+            Some([b'\t', b'0'..=b'9', b'0'..=b'9', b'\n']) => TWO_DIGITS,
+            Some([b'\t', b'\n']) => EMPTY,
+            Some([b'\n']) => NONE,
+            Some([b'\t', b'1' | b'2', b'\t', .., b'\n']) => THIRD_FIELD,
+            _ => return,
+        };
+        if accepted == EDITIONS.contains(&said) {
+            self.said.meet(&[said]);
+        }
+    }
+
+    /// Counts a malformed line of a book of this edition that would be read under
+    /// the other header.
+    pub fn meet_line(&mut self, edition: u64, text: &[u8]) {
+        if let Some(line) = Line::read(text, other(edition)) {
+            self.lines_of_other.meet(&[edition, line.letter.into()]);
+        }
+    }
+}
+
+#[cfg(test)]
+mod tests {
+    use super::*;
+    use crate::deal::deal_with;
+    use crate::heading::{edition_of, header};
+
+    #[test]
+    fn first_lines() {
+        let mut met = FirstLines::new();
+        for line in NO_HEADERS {
+            assert_eq!(edition_of(line), None);
+            met.meet(line, false);
+        }
+        for edition in EDITIONS {
+            met.meet(header(edition), false);
+        }
+        assert_eq!(met.said.met(), met.said.all() - EDITIONS.len());
+        for edition in EDITIONS {
+            met.meet(header(edition), true);
+        }
+        assert_eq!(met.said.met(), met.said.all());
+        met.meet(b"CRN\t1\n", false);
+        assert_eq!(met.said.unlisted().count(), 0);
+    }
+
+    #[test]
+    fn lines_of_the_other_header() {
+        let mut met = FirstLines::new();
+        for edition in EDITIONS {
+            for line in deal_with(&mut Random::new(29, edition), edition, 0, 1) {
+                met.meet_line(edition, &line.text(edition));
+                met.meet_line(edition, b"D\t1\n");
+            }
+        }
+        assert_eq!(met.lines_of_other.met(), 0);
+        for edition in EDITIONS {
+            for line in deal_with(&mut Random::new(29, edition), edition, 0, 1) {
+                met.meet_line(edition, &line.text(other(edition)));
+            }
+        }
+        assert_eq!(met.lines_of_other.met(), met.lines_of_other.all());
+    }
+}
