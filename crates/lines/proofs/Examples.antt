@@ -1,8 +1,9 @@
 -- Numbers and lines of 01, The book, read by the definitions themselves. Assumes nothing.
 use Prim.Native.Nat.{ℕ}
 use mathlib.Core.Path.{_≡_, refl}
-use mathlib.Core.Bool.{Bool, true, false, not}
+use mathlib.Core.Bool.{Bool, Bool·beq, true, false, not, _||_}
 use mathlib.Core.List.{List, [], _∷_, _++_, map}
+use lib.Dec.{eqb}
 use lib.ListN.{replicate}
 use Rattle.base.specs.Choice.{if_then_else_}
 use Rattle.base.specs.Range.{within}
@@ -236,3 +237,10 @@ other-heading :
     × (let c = bytes "C\t500\t1\t0\t0\t978\t30\t30\t1\t1\t1\t0\n" in (lineOf 2 c ≡ lineOf 1 c) × (isRead (lineOf 2 c) ≡ true))
 unfolding isRead lineOf widthUnder withSovereign dealLine collateralLine guaranteeLine ifRead fieldsOf withNumber andThen isEnd fieldOf numberOf numberRead numberAllowed digitsOf decimalFrom within if_then_else_
 other-heading = (refl, (refl, refl))
+
+-- eleven numbers are read behind the letters D and C alone, ten behind G
+letters-only-2 :
+    (every 256 (λ b. Bool·beq (isRead (lineOf 2 (b ∷ bytes "\t1\t1\t1\t1\t1\t1\t1\t1\t1\t1\t1\n"))) (eqb b (byte "D") || eqb b (byte "C"))) ≡ true)
+    × (only (byte "G") (λ b. isRead (lineOf 2 (b ∷ bytes "\t1\t1\t1\t1\t1\t1\t1\t1\t1\t1\n"))) ≡ true)
+unfolding isRead lineOf widthUnder withSovereign dealLine collateralLine guaranteeLine ifRead fieldsOf withNumber andThen isEnd fieldOf numberOf numberRead numberAllowed digitsOf decimalFrom within if_then_else_
+letters-only-2 = (refl, refl)
