@@ -1,5 +1,6 @@
 -- `deal::collateral::CollateralList::add` meets its contract: 6 first, then the item's own tests; one place is set, and the count is one more. Assumes nothing.
 use mathlib.Core.Path.{_≡_, refl, sym, _∙_}
+use native.Mathlib.Omega.{arith}
 use borrow.Author.Tests.{eqb-true}
 use Rattle.base.proofs.Tests.{tests, told-true, told-false}
 use Rattle.deal.specs.Answers.{answerNumber}
@@ -19,7 +20,7 @@ is-accepted-requires c κs = tt
 -- the list is not full, so the item's own fields decide
 past-6 : (c : tie.Then1) → let a = c .before .args in collateralListRefusal (a .t1) (a .item) ≡ collateralRefusal (a .item)
 unfolding collateralListRefusal collateralListTests collateralRefusal
-past-6 c = own-tests collateralTests _ _ (c .if1 .taken)
+past-6 c = own-tests collateralTests (c .before .args .t1 .count) _ (omega arith)
 
 mul-item : tie.Need-mul-item
 mul-item c = search tests
