@@ -46,8 +46,8 @@ example-answered = refl
 
 -- first lines: the right ones; without a line feed, with a carriage return, none; with another number, or more of it
 headings-read :
-    map headingOf (bytes "CRM\t1\n" ∷ bytes "CRM\t2\n" ∷ bytes "CRM\t1" ∷ bytes "CRM\t2" ∷ bytes "CRM\t1\r\n" ∷ bytes "CRM\t2\r\n" ∷ bytes "" ∷ bytes "CRM\t0\n" ∷ bytes "CRM\t3\n" ∷ bytes "CRM\t02\n" ∷ bytes "CRM\t22\n" ∷ bytes "CRM\t2\t\n" ∷ bytes "CRM\t\n" ∷ [])
-    ≡ Edition 1 ∷ Edition 2 ∷ replicate 11 Wrong
+    map headingOf (bytes "CRM\t1\n" ∷ bytes "CRM\t2\n" ∷ bytes "CRM\t3\n" ∷ bytes "CRM\t1" ∷ bytes "CRM\t2" ∷ bytes "CRM\t3" ∷ bytes "CRM\t1\r\n" ∷ bytes "CRM\t2\r\n" ∷ bytes "CRM\t3\r\n" ∷ bytes "" ∷ bytes "CRM\t0\n" ∷ bytes "CRM\t4\n" ∷ bytes "CRM\t03\n" ∷ bytes "CRM\t13\n" ∷ bytes "CRM\t33\n" ∷ bytes "CRM\t3\t\n" ∷ bytes "CRM\t02\n" ∷ bytes "CRM\t22\n" ∷ bytes "CRM\t2\t\n" ∷ bytes "CRM\t\n" ∷ [])
+    ≡ Edition 1 ∷ Edition 2 ∷ Edition 3 ∷ replicate 17 Wrong
 unfolding worked
 headings-read = refl
 

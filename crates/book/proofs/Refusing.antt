@@ -17,7 +17,8 @@ use Rattle.text.proofs.Equal.{same-equal}
 use Rattle.text.proofs.Lines.{lines-first, no-lines}
 use Rattle.book.specs.Deals.{opensDeal}
 use Rattle.book.specs.Answers.{answersFrom}
-use Rattle.book.specs.Heading.{editionOf, firstHeader, headingOf, isWrong, secondHeader}
+use Rattle.book.specs.Heading.{editionOf, firstHeader, headingOf, isWrong, secondHeader, thirdHeader}
+use Rattle.book.specs.declared.heading.Heading.{Heading}
 use Rattle.book.specs.Start.{ownFirst}
 use Rattle.book.specs.Book.{bookEdition, bookTests, bookRefusal, dealsOf, answeredDeals, refusedReply, bookReply, resultsAfter}
 use Rattle.base.specs.Writing.{overwrite}
@@ -25,19 +26,24 @@ use Rattle.book.proofs.Grouping.{opens-first}
 use Rattle.book.proofs.Answering.{no-answers}
 
 -- a first line that is not wrong is one of those asked for, byte for byte, and says its edition
-pub heading-right : (line : List ℕ) → isWrong (headingOf line) ≡ false →
-    ((line ≡ firstHeader) × (editionOf (headingOf line) ≡ 1)) ⊎ ((line ≡ secondHeader) × (editionOf (headingOf line) ≡ 2))
+abbrev pub Headed : List ℕ → ℕ → Type 0
+Headed line edition = ((line ≡ firstHeader) × (edition ≡ 1)) ⊎ (((line ≡ secondHeader) × (edition ≡ 2)) ⊎ ((line ≡ thirdHeader) × (edition ≡ 3)))
+
+abbrev Right : List ℕ → Heading → Type 0
+Right line h = isWrong h ≡ false → Headed line (editionOf h)
+
+pub heading-right : (line : List ℕ) → isWrong (headingOf line) ≡ false → Headed line (editionOf (headingOf line))
 unfolding headingOf
 heading-right line =
-    either (λ h. isWrong h ≡ false → ((line ≡ firstHeader) × (editionOf h ≡ 1)) ⊎ ((line ≡ secondHeader) × (editionOf h ≡ 2))) (sameBytes line firstHeader)
-    (λ e h. inl (same-equal line firstHeader e, refl))
-    (λ _. either (λ h. isWrong h ≡ false → ((line ≡ firstHeader) × (editionOf h ≡ 1)) ⊎ ((line ≡ secondHeader) × (editionOf h ≡ 2))) (sameBytes line secondHeader)
-    (λ e h. inr (same-equal line secondHeader e, refl))
-    (λ e h. absurd (never refl h)))
+    either (Right line) (sameBytes line firstHeader) (λ e h. inl (same-equal line firstHeader e, refl))
+    (λ _. either (Right line) (sameBytes line secondHeader) (λ e h. inr (inl (same-equal line secondHeader e, refl)))
+    (λ _. either (Right line) (sameBytes line thirdHeader) (λ e h. inr (inr (same-equal line thirdHeader e, refl)))
+    (λ e h. absurd (never refl h))))
 
 -- so it has some bytes, and the lines behind it can be numbered
 pub heading-long : (line : List ℕ) → isWrong (headingOf line) ≡ false → 2 ≤ length line
-heading-long line h = ⊎-elim (λ e. omega (arith, ap length (e .0))) (λ e. omega (arith, ap length (e .0))) (heading-right line h)
+heading-long line h =
+    ⊎-elim (λ e. omega (arith, ap length (e .0))) (λ e. ⊎-elim (λ e. omega (arith, ap length (e .0))) (λ e. omega (arith, ap length (e .0))) e) (heading-right line h)
 
 -- the first line behind the heading opens no deal
 pub second-wrong : (text : List ℕ) → not (allPass (take 1 (linesOf text)) opensDeal) ≡ ownFirst text

@@ -1,4 +1,4 @@
--- What the first line of a book says. 01: The book; Answering a book; 02: L5
+-- What the first line of a book says. 01: The book; Answering a book; 02: L5, L9
 use Prim.Native.Nat.{ℕ}
 use mathlib.Core.Bool.{Bool, true, false}
 use mathlib.Core.List.{List}
@@ -16,10 +16,15 @@ firstHeader = bytes "CRM\t1\n"
 abbrev pub secondHeader : List ℕ
 secondHeader = bytes "CRM\t2\n"
 
+-- "A header second field of 3"
+abbrev pub thirdHeader : List ℕ
+thirdHeader = bytes "CRM\t3\n"
+
 unfoldable pub headingOf : List ℕ → Heading
 headingOf line =
     if sameBytes line firstHeader then Edition 1 else
     if sameBytes line secondHeader then Edition 2 else
+    if sameBytes line thirdHeader then Edition 3 else
     Wrong
 
 -- "9 first line wrong"

@@ -41,5 +41,8 @@ pub fn read_heading(line: &[u8]) -> Heading
     if same(line, b"CRM\t2\n") {
         return Heading::Edition(2);
     }
+    if same(line, b"CRM\t3\n") {
+        return Heading::Edition(3);
+    }
     Heading::Wrong
 }

@@ -1,15 +1,22 @@
 -- Demand 2 is met. Assumes nothing.
 use Prim.Native.Nat.{ℕ, _+_, _*_, _-_, _/_, _≤_, _<_, min}
 use mathlib.Core.Path.{_≡_, sym, ap, _∙_}
-use mathlib.Core.Bool.{true}
+use mathlib.Core.Bool.{true, not}
 use native.Mathlib.Nat.{div-add-mod', mod-lt}
 use native.Mathlib.Omega.{arith}
+use Rattle.tables.specs.Eligibility.{excluded}
+use Rattle.tables.specs.Haircuts.{bandOf, haircut, lentHaircut}
+use Rattle.tables.specs.Table.{Goods}
+use Rattle.tables.proofs.Bands.{first-band, haircut-sample, last-band, lent-sample, middle-band, sample}
 use Rattle.tables.proofs.Listed.{eligible-as-listed}
+use Rattle.tables.proofs.Versions.{eligible-same}
 use Rattle.valuation.specs.Exposure.{riskWeightedAmount}
 use Rattle.valuation.specs.Protection.{keepShare, mismatched}
 use Rattle.cover.specs.Cover.{weightedSum}
+use Rattle.deal.specs.Editions.{tableFor}
 use Rattle.deal.specs.Records.{accepted}
 use Rattle.deal.specs.Views.{viewOf}
+use Rattle.deal.specs.declared.terms.Terms.{Terms}
 use Rattle.deal.specs.declared.deal.Deal.{Deal}
 use Rattle.relief.specs.Exposure.{adjustedExposureOf, collateralTotal, exposureAfter, piecesOf, riskWeightedAmountOf}
 use Rattle.relief.specs.Weights.{counterpartyWeightOf}
@@ -24,7 +31,7 @@ use Rattle.relief_laws.proofs.Reports.{left-out-covers-zero, report-conserved, 
 use Rattle.relief_laws.proofs.Rounded.{adjusted-exposure-is, risk-weighted-is}
 use Rattle.relief_laws.proofs.Values.{adjusted-value-is, left-out-value}
 use Rattle.starred.proofs.Starred.{starred-right}
-use Rattle.claims.specs.Demand2.{Demand2}
+use Rattle.claims.specs.Demand2.{ByThreeBands, Demand2}
 
 -- a quotient is rounded down
 floor : (x d : ℕ) → 0 < d → (x / d * d ≤ x) × (x < (x / d + 1) * d)
@@ -56,6 +63,18 @@ amount-made d e =
     rwa-of table d e
     ∙ sym (ap (λ E. riskWeightedAmount (weightedSum (counterpartyWeightOf table (d .terms)) E (piecesOf table (viewOf d)))) (exposure-of table d e))
 
+-- a figure that depends on the life by its band
+by-bands : (figure : ℕ → ℕ) → ((life : ℕ) → figure (sample (bandOf life)) ≡ figure life) → (life : ℕ) → ByThreeBands figure life
+by-bands figure e life = (
+  λ h. sym (e life) ∙ ap (λ b. figure (sample b)) (first-band life h),
+  λ l h. sym (e life) ∙ ap (λ b. figure (sample b)) (middle-band life l h),
+  λ l. sym (e life) ∙ ap (λ b. figure (sample b)) (last-band life l),
+)
+
+eligibility : (t : Terms) (goods step listed : ℕ) → Goods goods → step ≤ 6 → listed ≤ 1 → tableFor t .eligible goods step listed ≡ not (excluded goods step listed)
+unfolding tableFor
+eligibility t goods step listed g s l = eligible-same (t .edition) goods step listed ∙ eligible-as-listed goods step listed g s l
+
 pub demand-2 : Demand2
 demand-2 = record {
   full = λ d e. report-accepted (tableFor (d .terms)) d e;
@@ -65,8 +84,9 @@ demand-2 = record {
   weighted = amount-made;
   keep-none = none-kept;
   mismatch-down = mismatch-rounded;
-  eligibility = eligible-as-listed;
+  eligibility = eligibility;
   figures = starred-right;
+  bands = λ goods step life. (by-bands (haircut goods step) (haircut-sample goods step) life, by-bands (lentHaircut goods step) (lent-sample goods step) life);
   scaling = scaled-is;
   value-down = adjusted-value-is;
   exposure-up = adjusted-exposure-is;

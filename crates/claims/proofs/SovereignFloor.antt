@@ -14,6 +14,7 @@ use Rattle.base.proofs.Choice.{if-false}
 use Rattle.base.proofs.Tests.{and-first, and-second}
 use Rattle.tables.specs.Classes.{bank, bankOrSecuritiesFirm, corporate, otherEntity, retail, sovereign}
 use Rattle.tables.specs.Weights.{atLeastSovereign, counterpartyWeight, floorForCounterparty, floorForProvider, hasFloor, ownWeight, providerWeight, stepColumn, tableWeight}
+use Rattle.tables.proofs.Versions.{of-2019}
 use Rattle.text.specs.Bytes.{byte, bytes}
 use Rattle.text.specs.Text.{firstLine, sameBytes}
 use Rattle.text.proofs.Equal.{same-equal}
@@ -51,17 +52,17 @@ use Rattle.claims.specs.SovereignFloor.{SovereignFloor, sample, sampleAn
 
 -- Weights
 
-bank-floor : (edition sovereignStep : ℕ) → eqb edition 1 ≡ false → counterpartyWeight edition bank 0 sovereignStep ≡ max 50 (tableWeight sovereign sovereignStep)
+bank-floor : (sovereignStep : ℕ) → counterpartyWeight 2 bank 0 sovereignStep ≡ max 50 (tableWeight sovereign sovereignStep)
 unfolding counterpartyWeight ownWeight atLeastSovereign hasFloor tableWeight stepColumn if_then_else_
-bank-floor edition sovereignStep e = rw e
+bank-floor sovereignStep = refl
 
-corporate-floor : (edition sovereignStep : ℕ) → eqb edition 1 ≡ false → counterpartyWeight edition corporate 0 sovereignStep ≡ max 100 (tableWeight sovereign sovereignStep)
+corporate-floor : (sovereignStep : ℕ) → counterpartyWeight 2 corporate 0 sovereignStep ≡ max 100 (tableWeight sovereign sovereignStep)
 unfolding counterpartyWeight ownWeight atLeastSovereign hasFloor tableWeight stepColumn if_then_else_
-corporate-floor edition sovereignStep e = rw e
+corporate-floor sovereignStep = refl
 
-provider-floor : (edition sovereignStep : ℕ) → eqb edition 1 ≡ false → providerWeight edition bankOrSecuritiesFirm 0 sovereignStep ≡ max 50 (tableWeight sovereign sovereignStep)
+provider-floor : (sovereignStep : ℕ) → providerWeight 2 bankOrSecuritiesFirm 0 sovereignStep ≡ max 50 (tableWeight sovereign sovereignStep)
 unfolding providerWeight atLeastSovereign hasFloor tableWeight stepColumn if_then_else_
-provider-floor edition sovereignStep e = rw e
+provider-floor sovereignStep = refl
 
 -- where the floor does not apply
 unfloored : (applies : Bool) (own sovereignStep : ℕ) → applies ≡ false → atLeastSovereign applies own sovereignStep ≡ own
@@ -77,25 +78,25 @@ not-for true true c e = e
 not-for true false c e = refl
 not-for false b c e = refl
 
-rated-counterparty : (edition class step sovereignStep : ℕ) → 1 ≤ step → counterpartyWeight edition class step sovereignStep ≡ ownWeight class step
+rated-counterparty : (class step sovereignStep : ℕ) → 1 ≤ step → counterpartyWeight 2 class step sovereignStep ≡ ownWeight class step
 unfolding counterpartyWeight
-rated-counterparty edition class step sovereignStep h = unfloored (floorForCounterparty edition class step) _ _ (not-applied (hasFloor edition) _ _ (ne-eqb step 0 (λ e. omega arith)))
+rated-counterparty class step sovereignStep h = unfloored (floorForCounterparty 2 class step) _ _ (not-applied (hasFloor 2) _ _ (ne-eqb step 0 (λ e. omega arith)))
 
-rated-provider : (edition class step sovereignStep : ℕ) → 1 ≤ step → providerWeight edition class step sovereignStep ≡ tableWeight class step
+rated-provider : (class step sovereignStep : ℕ) → 1 ≤ step → providerWeight 2 class step sovereignStep ≡ tableWeight class step
 unfolding providerWeight
-rated-provider edition class step sovereignStep h = unfloored (floorForProvider edition class step) _ _ (not-applied (hasFloor edition) _ _ (ne-eqb step 0 (λ e. omega arith)))
+rated-provider class step sovereignStep h = unfloored (floorForProvider 2 class step) _ _ (not-applied (hasFloor 2) _ _ (ne-eqb step 0 (λ e. omega arith)))
 
-others : (edition step sovereignStep : ℕ) →
-    (counterpartyWeight edition sovereign step sovereignStep ≡ ownWeight sovereign step)
-    × (counterpartyWeight edition retail step sovereignStep ≡ ownWeight retail step)
-    × (providerWeight edition sovereign step sovereignStep ≡ tableWeight sovereign step)
-    × (providerWeight edition otherEntity step sovereignStep ≡ tableWeight otherEntity step)
+others : (step sovereignStep : ℕ) →
+    (counterpartyWeight 2 sovereign step sovereignStep ≡ ownWeight sovereign step)
+    × (counterpartyWeight 2 retail step sovereignStep ≡ ownWeight retail step)
+    × (providerWeight 2 sovereign step sovereignStep ≡ tableWeight sovereign step)
+    × (providerWeight 2 otherEntity step sovereignStep ≡ tableWeight otherEntity step)
 unfolding counterpartyWeight providerWeight
-others edition step sovereignStep = (
-  unfloored (floorForCounterparty edition sovereign step) _ _ (not-for (hasFloor edition) (eqb step 0) _ refl),
-  unfloored (floorForCounterparty edition retail step) _ _ (not-for (hasFloor edition) (eqb step 0) _ refl),
-  unfloored (floorForProvider edition sovereign step) _ _ (not-for (hasFloor edition) (eqb step 0) _ refl),
-  unfloored (floorForProvider edition otherEntity step) _ _ (not-for (hasFloor edition) (eqb step 0) _ refl),
+others step sovereignStep = (
+  unfloored (floorForCounterparty 2 sovereign step) _ _ (not-for (hasFloor 2) (eqb step 0) _ refl),
+  unfloored (floorForCounterparty 2 retail step) _ _ (not-for (hasFloor 2) (eqb step 0) _ refl),
+  unfloored (floorForProvider 2 sovereign step) _ _ (not-for (hasFloor 2) (eqb step 0) _ refl),
+  unfloored (floorForProvider 2 otherEntity step) _ _ (not-for (hasFloor 2) (eqb step 0) _ refl),
 )
 
 no-floor : (class step sovereignStep : ℕ) →
@@ -110,13 +111,13 @@ floors :
 unfolding worked
 floors = (refl, refl, refl)
 
-weight-used : (t : Terms) → counterpartyWeightOf (tableFor t) t ≡ counterpartyWeight (t .edition) (t .counterparty .class) (t .counterparty .step) (t .counterparty .«sovereign_step»)
+weight-used : (t : Terms) → eqb (t .edition) 3 ≡ false → counterpartyWeightOf (tableFor t) t ≡ counterpartyWeight (t .edition) (t .counterparty .class) (t .counterparty .step) (t .counterparty .«sovereign_step»)
 unfolding tableFor
-weight-used t = refl
+weight-used t n = rw (of-2019 (t .edition) n)
 
-provider-weight-used : (t : Terms) (g : Guarantee) → providerWeightOf (tableFor t) g ≡ providerWeight (t .edition) (g .provider .class) (g .provider .step) (g .provider .«sovereign_step»)
+provider-weight-used : (t : Terms) (g : Guarantee) → eqb (t .edition) 3 ≡ false → providerWeightOf (tableFor t) g ≡ providerWeight (t .edition) (g .provider .class) (g .provider .step) (g .provider .«sovereign_step»)
 unfolding tableFor
-provider-weight-used t g = refl
+provider-weight-used t g n = rw (of-2019 (t .edition) n)
 
 entity-left-out : (t : Terms) (g : Guarantee) → g .provider .class ≡ otherEntity → g .provider .step ≡ 0 →
     g .lawful ≡ 1 → g .direct ≡ 1 → g .«not_in_rating» ≡ 1 → guaranteeGround (tableFor t) t g ≡ 28
@@ -148,13 +149,13 @@ collateral-line-2 rest = refl
 
 -- The refusals
 
-editions-known : map editionKnown (0 ∷ 1 ∷ 2 ∷ 3 ∷ []) ≡ false ∷ true ∷ true ∷ false ∷ []
+editions-known : map editionKnown (0 ∷ 1 ∷ 2 ∷ 3 ∷ 4 ∷ []) ≡ false ∷ true ∷ true ∷ true ∷ false ∷ []
 unfolding within
 editions-known = refl
 
-edition-known : (edition : ℕ) → 3 ≤ edition → editionKnown edition ≡ false
+editions-unknown : (edition : ℕ) → 4 ≤ edition → editionKnown edition ≡ false
 unfolding within
-edition-known edition h = and-second (leb 1 edition) (leb edition 2) (le-leb 1 edition (omega arith)) (lt-leb edition 2 (omega arith))
+editions-unknown edition h = and-second (leb 1 edition) (leb edition 3) (le-leb 1 edition (omega arith)) (lt-leb edition 3 (omega arith))
 
 -- the second or third test is met, and none before it
 second-met : (c : FieldChecks) → c .amount ≡ true → c .codes ≡ false → firstMet (fieldTests c) ≡ 2
@@ -196,9 +197,9 @@ sample-answered = refl
 
 pub sovereign-floor : SovereignFloor
 sovereign-floor = record {
-  reply-same = λ book places e. sym (reply-now book places) ∙ reply-same book e places;
-  results-same = λ book list e. sym (results-now book list) ∙ results-same book e list;
-  printed-same = λ book e. sym (printed-now book) ∙ printed-same book e;
+  reply-same = λ book places e. sym (reply-now book places) ∙ reply-same book (e .0) (e .1) places;
+  results-same = λ book list e. sym (results-now book list) ∙ results-same book (e .0) (e .1) list;
+  printed-same = λ book e. sym (printed-now book) ∙ printed-same book (e .0) (e .1);
   line-same = line-same;
   deal-same = λ deal. sym (deal-now 1 deal) ∙ deal-same deal;
   was-refused = was-refused;
@@ -225,7 +226,7 @@ sovereign-floor = record {
   guarantee-line-2 = guarantee-line-2;
   collateral-line-2 = collateral-line-2;
   editions-known = editions-known;
-  edition-known = edition-known;
+  editions-unknown = editions-unknown;
   unknown-edition = unknown-edition;
   steps-of-sovereigns = steps-of-sovereigns;
   wrong-step = wrong-step;
@@ -261,9 +262,9 @@ books-said :
     × (bookRefusalBy beforeFloor (bytes "CRM\t2\n" ++ lines) 4 ≡ 9)
 unfolding worked
 books-said = (
-  sovereign-floor .results-same first (replicate 4 7) refl,
-  sovereign-floor .results-same other (replicate 4 7) refl,
-  sovereign-floor .printed-same first refl,
+  sovereign-floor .results-same first (replicate 4 7) (refl, refl),
+  sovereign-floor .results-same other (replicate 4 7) (refl, refl),
+  sovereign-floor .printed-same first (refl, refl),
   sovereign-floor .was-refused (bytes "CRM\t2\n" ++ lines) 4 refl (omega arith),
 )
 
@@ -291,4 +292,4 @@ record-reported = refl
 weighed :
     (counterpartyWeight 2 corporate 0 6 ≡ 150) × (providerWeight 2 bankOrSecuritiesFirm 0 4 ≡ 100) × (counterpartyWeight 2 corporate 1 6 ≡ 20)
 unfolding tableWeight ownWeight stepColumn if_then_else_
-weighed = (sovereign-floor .corporate-floor 2 6 refl, sovereign-floor .provider-floor 2 4 refl, sovereign-floor .rated-counterparty 2 corporate 1 6 (omega arith))
+weighed = (sovereign-floor .corporate-floor 6, sovereign-floor .provider-floor 4, sovereign-floor .rated-counterparty corporate 1 6 (omega arith))

@@ -3,9 +3,10 @@
 -- other event."
 --
 -- The contract of `relief::report::Report::of` says that the whole report is `reportOf`, every number of it; that of
--- `book::answer::answer_book` says that a book's answers are made of those figures. docs/TRACE.md goes from each sentence of document 01
--- to its definition; under edition 2 the weights are those of 02: L5 (claims/specs/SovereignFloor). The cells of the tables, the minimum holding periods and the like are read there and not proved. What follows is
--- proved of the definitions.
+-- `book::answer::answer_book` says that a book's answers are made of those figures. docs/TRACE.md goes from each sentence of document 01 to its
+-- definition. The cells of the tables of 2019, the minimum holding periods and the like are read in those definitions and not proved. Under edition 2
+-- weights have the floor of 02: L5 (claims/specs/SovereignFloor); under edition 3 figures are those of 02: L9, "demand 2 means it for these
+-- members" (claims/specs/Tables2023). What follows is proved of the definitions, for deals of every edition.
 use Prim.Native.Nat.{ℕ, _+_, _*_, _-_, _≤_, _<_, min}
 use mathlib.Core.Path.{_≡_}
 use mathlib.Core.Logic.{_≢_}
@@ -15,7 +16,8 @@ use lib.ListN.{getD}
 use Rattle.base.specs.Least.{Least}
 use Rattle.base.specs.Sum.{sumOf}
 use Rattle.base.specs.FirstMet.{ExactFor}
-use Rattle.tables.specs.Eligibility.{eligible, excluded}
+use Rattle.tables.specs.Eligibility.{excluded}
+use Rattle.tables.specs.Haircuts.{haircut, lentHaircut}
 use Rattle.tables.specs.Table.{Goods}
 use Rattle.scaling.specs.Scaling.{IsScaled, scaled}
 use Rattle.valuation.specs.Exposure.{riskWeightedAmount, volatilityAdjustedExposure}
@@ -40,6 +42,11 @@ use Rattle.relief.specs.Weights.{counterpartyWeightOf}
 use Rattle.relief.specs.declared.outcome.Outcome.{Outcome}
 use Rattle.starred.specs.Figures.{AllRight, starred}
 
+-- a figure at a life is that of the last day of its band, or of the first day of the last
+abbrev pub ByThreeBands : (ℕ → ℕ) → ℕ → Type 0
+ByThreeBands figure life =
+    (life ≤ 360 → figure life ≡ figure 360) × (361 ≤ life → life ≤ 1800 → figure life ≡ figure 1800) × (1801 ≤ life → figure life ≡ figure 1801)
+
 pub record Demand2 : Type 0 where
   -- THE REPORT
 
@@ -63,6 +70,9 @@ pub record Demand2 : Type 0 where
 
   -- the figures that document 01 marks come out of the definitions
   pub figures : AllRight starred
+  -- in the tables of 2019 a security's life counts by three bands, "up to 360", "361 to 1,800", "over 1,800" days, pledged and lent (of 2023:
+  -- claims/specs/Tables2023)
+  pub bands : (goods step life : ℕ) → ByThreeBands (haircut goods step) life × ByThreeBands (lentHaircut goods step) life
   -- a scaled haircut is the least h with 10 × h × h at or above H × H × n
   pub scaling : (H n : ℕ) → IsScaled H n (scaled H n)
   -- haircuts that reach the whole leave nothing
@@ -90,7 +100,8 @@ pub record Demand2 : Type 0 where
   pub guarantee-ground : (t : Terms) (g : Guarantee) →
       ExactFor (outcomeGround (guaranteeOutcome (tableFor t) t g)) (guaranteeGrounds (tableFor t) t g)
   -- 24: goods are eligible by type and step exactly where the paper's list does not exclude them
-  pub eligibility : (goods step listed : ℕ) → Goods goods → step ≤ 6 → listed ≤ 1 → eligible goods step listed ≡ not (excluded goods step listed)
+  pub eligibility : (t : Terms) (goods step listed : ℕ) → Goods goods → step ≤ 6 → listed ≤ 1 →
+      tableFor t .eligible goods step listed ≡ not (excluded goods step listed)
   -- what is left out has value 0 ..
   pub left-out : (o : Outcome) → outcomeGround o ≢ 0 → outcomeValue o ≡ 0
   -- .. and covers 0, in every place of every report

@@ -2,9 +2,9 @@
 -- before keeps its answer. (For lives and terms 5 now begins above 100,000.)"
 --
 -- What ends in UpTo is a definition of opening, adding, reporting or answering a book with the limit as an argument in place of `daysLimit`
--- (earlier/specs/Days); the fields ending in -now say which definition each is at the limit in force. Everything in it but the limit is the rule of today: the
--- claim is about the limit alone. Calls on numbers (crate hadlephoga) go through the same operations. Every field holds 64 bits, and a number
--- that is sent in a line has at most 13 digits: none had to be widened, and none is cut.
+-- (earlier/specs/Days); the fields ending in -now say which definition each is at the limit in force. Everything in it but the limit is the
+-- rule of today: the claim is about the limit alone. Calls on numbers (crate hadlephoga) go through the same operations. Every field holds 64
+-- bits, and a number that is sent in a line has at most 13 digits: none had to be widened, and none is cut.
 use Prim.Native.Nat.{ℕ, _≤_}
 use mathlib.Core.Path.{_≡_}
 use mathlib.Core.Bool.{true, false, _&&_}

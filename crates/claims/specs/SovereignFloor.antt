@@ -6,7 +6,7 @@
 -- adding, reporting or answering a book by a set of rules (earlier/specs/Deals, earlier/specs/Books); by the rules in force it is the one
 -- that contracts name, as the fields ending in -now say. What the request did not touch (values, grounds, cover, rounding, the deals of a
 -- book) is today's definition on both sides, and is not compared. Demand 3 speaks of deals of every edition, a guarantor's sovereign's step among
--- what may get better (claims/specs/Demand3).
+-- what may get better (claims/specs/Demand3). Since 02: L9 a book may be headed 3 too, which has tables of its own (claims/specs/Tables2023).
 use Prim.Native.Nat.{ℕ, _≤_, max}
 use mathlib.Core.Path.{_≡_}
 use mathlib.Core.Bool.{true, false, _&&_}
@@ -47,9 +47,9 @@ use Rattle.earlier.specs.Books.{bookRefusalBy, bookReplyBy, dealAnswerBy, print
 use Rattle.earlier.specs.Deals.{acceptedBy, addCollateralRefusalBy, addGuaranteeRefusalBy, dealOpenedBy, reportBy, termsRefusalBy, withCollateralBy, withGuaranteeBy}
 use Rattle.earlier.specs.Rules.{inForce}
 
--- a book whose first line is not that of the second edition
-abbrev pub NotHeaded2 : List ℕ → Type 0
-NotHeaded2 book = sameBytes (firstLine book) (bytes "CRM\t2\n") ≡ false
+-- a book whose first line is that of no later edition than the first
+abbrev pub NotHeadedLater : List ℕ → Type 0
+NotHeadedLater book = (sameBytes (firstLine book) (bytes "CRM\t2\n") ≡ false) × (sameBytes (firstLine book) (bytes "CRM\t3\n") ≡ false)
 
 abbrev pub steps : List ℕ
 steps = 0 ∷ 1 ∷ 2 ∷ 3 ∷ 4 ∷ 5 ∷ 6 ∷ []
@@ -91,12 +91,12 @@ sampleAnswers =
     ++ (12 ∷ 11 ∷ 18 ∷ 0 ∷ [])
 
 pub record SovereignFloor : Type 0 where
-  -- A BOOK THAT IS NOT HEADED 2, one headed 1 among them, HAS THE ANSWERS IT HAD
+  -- A BOOK THAT IS HEADED NEITHER 2 NOR 3, one headed 1 among them, HAS THE ANSWERS IT HAD
 
   -- the reply, every number of every results list, and every byte that is printed
-  pub reply-same : (book : List ℕ) (places : ℕ) → NotHeaded2 book → bookReply book places ≡ bookReplyBy beforeFloor book places
-  pub results-same : (book list : List ℕ) → NotHeaded2 book → resultsAfter book list ≡ resultsBy beforeFloor book list
-  pub printed-same : (book : List ℕ) → NotHeaded2 book → printed book ≡ printedBy beforeFloor book
+  pub reply-same : (book : List ℕ) (places : ℕ) → NotHeadedLater book → bookReply book places ≡ bookReplyBy beforeFloor book places
+  pub results-same : (book list : List ℕ) → NotHeadedLater book → resultsAfter book list ≡ resultsBy beforeFloor book list
+  pub printed-same : (book : List ℕ) → NotHeadedLater book → printed book ≡ printedBy beforeFloor book
   -- headed 1, each line reads as before, field by field, and each deal has the three numbers it had
   pub line-same : (line : List ℕ) → lineOf 1 line ≡ lineBefore line
   pub deal-same : (deal : DealLines) → dealAnswer 1 deal ≡ dealAnswerBy beforeFloor 1 deal
@@ -115,23 +115,20 @@ pub record SovereignFloor : Type 0 where
       (addCollateralRefusal d c ≡ addCollateralRefusalBy beforeFloor d c) × (withCollateral d c ≡ withCollateralBy beforeFloor d c)
   pub adding-guarantee-same : (d : Deal) (g : Guarantee) → accepted d ≡ true → sovereignStepAllowed (g .provider) ≡ true →
       (addGuaranteeRefusal d g ≡ addGuaranteeRefusalBy beforeFloor d g) × (withGuarantee d g ≡ withGuaranteeBy beforeFloor d g)
-  -- THE FLOOR, under every edition but the first, by the sovereign's step
+  -- THE FLOOR under the second edition, by the sovereign's step (the third has it too: claims/specs/Tables2023)
 
   -- an unrated bank, which weighs 50 by itself, and an unrated corporate, which weighs 100; an unrated bank that gives a guarantee
-  pub bank-floor : (edition sovereignStep : ℕ) → eqb edition 1 ≡ false →
-      counterpartyWeight edition bank 0 sovereignStep ≡ max 50 (tableWeight sovereign sovereignStep)
-  pub corporate-floor : (edition sovereignStep : ℕ) → eqb edition 1 ≡ false →
-      counterpartyWeight edition corporate 0 sovereignStep ≡ max 100 (tableWeight sovereign sovereignStep)
-  pub provider-floor : (edition sovereignStep : ℕ) → eqb edition 1 ≡ false →
-      providerWeight edition bankOrSecuritiesFirm 0 sovereignStep ≡ max 50 (tableWeight sovereign sovereignStep)
+  pub bank-floor : (sovereignStep : ℕ) → counterpartyWeight 2 bank 0 sovereignStep ≡ max 50 (tableWeight sovereign sovereignStep)
+  pub corporate-floor : (sovereignStep : ℕ) → counterpartyWeight 2 corporate 0 sovereignStep ≡ max 100 (tableWeight sovereign sovereignStep)
+  pub provider-floor : (sovereignStep : ℕ) → providerWeight 2 bankOrSecuritiesFirm 0 sovereignStep ≡ max 50 (tableWeight sovereign sovereignStep)
   -- whoever is rated weighs by class and step alone, and so does every sovereign, retail and other entity
-  pub rated-counterparty : (edition class step sovereignStep : ℕ) → 1 ≤ step → counterpartyWeight edition class step sovereignStep ≡ ownWeight class step
-  pub rated-provider : (edition class step sovereignStep : ℕ) → 1 ≤ step → providerWeight edition class step sovereignStep ≡ tableWeight class step
-  pub others : (edition step sovereignStep : ℕ) →
-      (counterpartyWeight edition sovereign step sovereignStep ≡ ownWeight sovereign step)
-      × (counterpartyWeight edition retail step sovereignStep ≡ ownWeight retail step)
-      × (providerWeight edition sovereign step sovereignStep ≡ tableWeight sovereign step)
-      × (providerWeight edition otherEntity step sovereignStep ≡ tableWeight otherEntity step)
+  pub rated-counterparty : (class step sovereignStep : ℕ) → 1 ≤ step → counterpartyWeight 2 class step sovereignStep ≡ ownWeight class step
+  pub rated-provider : (class step sovereignStep : ℕ) → 1 ≤ step → providerWeight 2 class step sovereignStep ≡ tableWeight class step
+  pub others : (step sovereignStep : ℕ) →
+      (counterpartyWeight 2 sovereign step sovereignStep ≡ ownWeight sovereign step)
+      × (counterpartyWeight 2 retail step sovereignStep ≡ ownWeight retail step)
+      × (providerWeight 2 sovereign step sovereignStep ≡ tableWeight sovereign step)
+      × (providerWeight 2 otherEntity step sovereignStep ≡ tableWeight otherEntity step)
   -- under the first edition everyone
   pub no-floor : (class step sovereignStep : ℕ) →
       (counterpartyWeight 1 class step sovereignStep ≡ ownWeight class step) × (providerWeight 1 class step sovereignStep ≡ tableWeight class step)
@@ -139,10 +136,10 @@ pub record SovereignFloor : Type 0 where
   pub bank-floors : map (counterpartyWeight 2 bank 0) steps ≡ 100 ∷ 50 ∷ 50 ∷ 50 ∷ 100 ∷ 100 ∷ 150 ∷ []
   pub corporate-floors : map (counterpartyWeight 2 corporate 0) steps ≡ 100 ∷ 100 ∷ 100 ∷ 100 ∷ 100 ∷ 100 ∷ 150 ∷ []
   pub provider-floors : map (providerWeight 2 bankOrSecuritiesFirm 0) steps ≡ 100 ∷ 50 ∷ 50 ∷ 50 ∷ 100 ∷ 100 ∷ 150 ∷ []
-  -- these are the weights of a deal's report, by its edition, each party's class, step and sovereign's step
-  pub weight-used : (t : Terms) →
+  -- these are the weights of a deal's report, by its edition, each party's class, step and sovereign's step; the third edition has those of 2023
+  pub weight-used : (t : Terms) → eqb (t .edition) 3 ≡ false →
       counterpartyWeightOf (tableFor t) t ≡ counterpartyWeight (t .edition) (t .counterparty .class) (t .counterparty .step) (t .counterparty .«sovereign_step»)
-  pub provider-weight-used : (t : Terms) (g : Guarantee) →
+  pub provider-weight-used : (t : Terms) (g : Guarantee) → eqb (t .edition) 3 ≡ false →
       providerWeightOf (tableFor t) g ≡ providerWeight (t .edition) (g .provider .class) (g .provider .step) (g .provider .«sovereign_step»)
   -- "an unrated other entity still has ground 28", under every edition and whatever its sovereign's step
   pub entity-left-out : (t : Terms) (g : Guarantee) → g .provider .class ≡ otherEntity → g .provider .step ≡ 0 →
@@ -154,9 +151,9 @@ pub record SovereignFloor : Type 0 where
   pub deal-line-2 : (rest : List ℕ) → lineOf 2 (byte "D" ∷ rest) ≡ ifRead (λ fields. DealLine (termsUnder 2 fields)) (fieldsOf 11 rest)
   pub guarantee-line-2 : (rest : List ℕ) → lineOf 2 (byte "G" ∷ rest) ≡ ifRead (λ fields. GuaranteeLine (guaranteeIn fields)) (fieldsOf 10 rest)
   pub collateral-line-2 : (rest : List ℕ) → lineOf 2 (byte "C" ∷ rest) ≡ lineOf 1 (byte "C" ∷ rest)
-  -- an unknown edition is 2, behind 1
-  pub editions-known : map editionKnown (0 ∷ 1 ∷ 2 ∷ 3 ∷ []) ≡ false ∷ true ∷ true ∷ false ∷ []
-  pub edition-known : (edition : ℕ) → 3 ≤ edition → editionKnown edition ≡ false
+  -- an unknown edition is refused by 2, behind 1
+  pub editions-known : map editionKnown (0 ∷ 1 ∷ 2 ∷ 3 ∷ 4 ∷ []) ≡ false ∷ true ∷ true ∷ true ∷ false ∷ []
+  pub editions-unknown : (edition : ℕ) → 4 ≤ edition → editionKnown edition ≡ false
   pub unknown-edition : (t : Terms) → amountAllowed (t .amount) ≡ true → editionKnown (t .edition) ≡ false → termsRefusal t ≡ 2
   -- a sovereign's step is 0 for classes 1 and 4, and at most 6 for 2 and 3; else it is 3, behind 1 and 2
   pub steps-of-sovereigns : (class step s : ℕ) → let party : Party = record { class = class; step = step; «sovereign_step» = s } in

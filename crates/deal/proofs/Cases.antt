@@ -315,11 +315,11 @@ rated-sovereign-steps = (refl, refl)
 
 -- an unknown edition is 2: behind 1, before 3
 editions :
-    map (λ e. termsRefusal (termsIn (500 ∷ 2 ∷ 0 ∷ 6 ∷ 978 ∷ 3 ∷ 1 ∷ 1800 ∷ 1 ∷ 0 ∷ 0 ∷ e ∷ []))) (0 ∷ 1 ∷ 2 ∷ 3 ∷ 4 ∷ 257 ∷ 4294967298 ∷ [])
+    map (λ e. termsRefusal (termsIn (500 ∷ 2 ∷ 0 ∷ 6 ∷ 978 ∷ 3 ∷ 1 ∷ 1800 ∷ 1 ∷ 0 ∷ 0 ∷ e ∷ []))) (0 ∷ 1 ∷ 2 ∷ 3 ∷ 4 ∷ 5 ∷ 257 ∷ 4294967299 ∷ [])
     ∷ map (λ e. termsRefusal (termsIn (1000000000001 ∷ 2 ∷ 0 ∷ 7 ∷ 0 ∷ 3 ∷ 1 ∷ 1800 ∷ 1 ∷ 0 ∷ 0 ∷ e ∷ []))) (0 ∷ 1 ∷ [])
     ∷ map (λ e. termsRefusal (termsIn (500 ∷ 2 ∷ 0 ∷ 7 ∷ 0 ∷ 3 ∷ 1 ∷ 1800 ∷ 1 ∷ 0 ∷ 0 ∷ e ∷ []))) (0 ∷ 1 ∷ [])
     ∷ []
-    ≡ (2 ∷ 0 ∷ 0 ∷ 2 ∷ 2 ∷ 2 ∷ 2 ∷ []) ∷ (1 ∷ 1 ∷ []) ∷ (2 ∷ 3 ∷ []) ∷ []
+    ≡ (2 ∷ 0 ∷ 0 ∷ 0 ∷ 2 ∷ 2 ∷ 2 ∷ 2 ∷ []) ∷ (1 ∷ 1 ∷ []) ∷ (2 ∷ 3 ∷ []) ∷ []
 unfolding termsRefusal termsTests firstOr within partyStepAllowed sovereignStepAllowed partyStepsAllowed assetStepAllowed lifeAllowed if_then_else_
 editions = refl
 
@@ -328,10 +328,11 @@ records :
     map (λ d. addCollateralRefusal d (pledge 5 1 360 360 1)) (
     dealWith (termsIn (500 ∷ 2 ∷ 0 ∷ 6 ∷ 978 ∷ 3 ∷ 1 ∷ 1800 ∷ 1 ∷ 0 ∷ 0 ∷ 2 ∷ [])) [] []
     ∷ dealWith (termsIn (500 ∷ 2 ∷ 0 ∷ 6 ∷ 978 ∷ 3 ∷ 1 ∷ 1800 ∷ 1 ∷ 0 ∷ 0 ∷ 3 ∷ [])) [] []
+    ∷ dealWith (termsIn (500 ∷ 2 ∷ 0 ∷ 6 ∷ 978 ∷ 3 ∷ 1 ∷ 1800 ∷ 1 ∷ 0 ∷ 0 ∷ 4 ∷ [])) [] []
     ∷ dealWith (termsIn (500 ∷ 1 ∷ 0 ∷ 6 ∷ 978 ∷ 3 ∷ 1 ∷ 1800 ∷ 1 ∷ 0 ∷ 0 ∷ 2 ∷ [])) [] []
     ∷ guaranteed 1 (guaranteeIn (5 ∷ 1 ∷ 0 ∷ 1 ∷ 978 ∷ 1 ∷ 1 ∷ 1 ∷ 1 ∷ 1 ∷ []))
     ∷ guaranteed 0 (guaranteeIn (5 ∷ 1 ∷ 0 ∷ 1 ∷ 978 ∷ 1 ∷ 1 ∷ 1 ∷ 1 ∷ 1 ∷ []))
     ∷ [])
-    ≡ 0 ∷ 40 ∷ 40 ∷ 40 ∷ 0 ∷ []
+    ≡ 0 ∷ 0 ∷ 40 ∷ 40 ∷ 40 ∷ 0 ∷ []
 unfolding addCollateralRefusal addCollateralTests recordAllowed collateralListTests collateralListAllowed guaranteeListAllowed termsRefusal termsTests collateralRefusal collateralTests guaranteeRefusal guaranteeTests firstOr within partyStepAllowed sovereignStepAllowed partyStepsAllowed assetStepAllowed lifeAllowed if_then_else_
 records = refl

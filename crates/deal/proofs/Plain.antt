@@ -40,7 +40,7 @@ pub record PlainTerms (t : Terms) : Type 0 where
   pub residual : Between 1 daysLimit (t .residual)
   pub lentGoods : Between 1 9 (t .lent .goods)
   pub lentStep : t .lent .step ≤ 6
-  pub edition : Between 1 2 (t .edition)
+  pub edition : Between 1 3 (t .edition)
 
 pub record PlainCollateral (c : Collateral) : Type 0 where
   pub amount : c .amount ≤ 1000000000000
@@ -120,7 +120,7 @@ plain-terms t e =
       residual = bounds 1 daysLimit _ (days .1);
       lentGoods = bounds 1 9 _ (known .1);
       lentStep = asset-step _ (steps .1);
-      edition = bounds 1 2 _ (all .1);
+      edition = bounds 1 3 _ (all .1);
     }
 
 pub plain-collateral : (c : Collateral) → collateralRefusal c ≡ 0 → PlainCollateral c

@@ -21,7 +21,7 @@ use tables::kinds::SECURED_LENDING;
 
 const FIRST_EDITION: u64 = 1;
 
-const LAST_EDITION: u64 = 2;
+const LAST_EDITION: u64 = 3;
 
 pub struct Terms {
     pub amount: u64,

@@ -1,19 +1,18 @@
--- Before the sovereign floor and after it: a book that is not headed 2 has the same answers, and so has a deal of the first edition. Assumes
+-- Before the sovereign floor and now: a book that is headed neither 2 nor 3 has the same answers, and so has a deal of the first edition. Assumes
 -- nothing.
-use Prim.Native.Nat.{ℕ, _+_, _≤_}
+use Prim.Native.Nat.{ℕ, _≤_}
 use mathlib.Core.Path.{_≡_, refl, sym, ap, subst, _∙_}
 use mathlib.Core.Bool.{Bool, true, false, _&&_, _||_}
 use mathlib.Core.List.{List, [], _∷_}
 use mathlib.Core.Option.{Option, none, some}
-use lib.Dec.{eqb, leb, ltb}
+use lib.Dec.{eqb, leb}
 use lib.ListN.{length}
-use borrow.Author.Tests.{eqb-true, le-ltb, not-false as held}
+use borrow.Author.Tests.{not-false as held}
 use Rattle.base.specs.All.{allPass}
 use Rattle.base.specs.Choice.{if_then_else_}
-use Rattle.base.specs.FirstMet.{_when_, firstMet, firstOr}
+use Rattle.base.specs.FirstMet.{_when_, firstMet}
 use Rattle.base.specs.Range.{within}
-use Rattle.base.specs.Writing.{overwrite}
-use Rattle.base.proofs.Choice.{either, if-false, if-true, never}
+use Rattle.base.proofs.Choice.{either, if-true, never}
 use Rattle.base.proofs.Every.{both}
 use Rattle.base.proofs.FirstMet.{none-exactly}
 use Rattle.base.proofs.Tests.{and-true}
@@ -43,19 +42,17 @@ use Rattle.lines.specs.Sovereign.{widthUnder, withSovereign}
 use Rattle.lines.specs.declared.line.Line.{Line}
 use Rattle.lines.specs.declared.line.Line.the-variants.{DealLine, CollateralLine, GuaranteeLine, Malformed}
 use Rattle.lines.proofs.SovereignLaws.{put-at}
-use Rattle.book.specs.Answers.{refusedAt}
-use Rattle.book.specs.Book.{bookLimit, dealsOf}
+use Rattle.book.specs.Book.{bookLimit}
 use Rattle.book.specs.Deals.{DealLines}
-use Rattle.book.specs.Heading.{editionOf, firstHeader, headingOf, isWrong, secondHeader}
+use Rattle.book.specs.Heading.{editionOf, firstHeader, headingOf, isWrong, secondHeader, thirdHeader}
 use Rattle.book.specs.declared.heading.Heading.{Heading}
-use Rattle.result.specs.Result.{resultText}
-use Rattle.response.specs.Response.{places}
 use Rattle.earlier.specs.BeforeFloor.{beforeFloor, guaranteeBefore, guaranteeChecksBefore, headingBefore, lineBefore, newFieldsAllowed, tableBefore, termsBefore, termsChecksBefore}
-use Rattle.earlier.specs.Books.{answeredDealsBy, answersBy, bookRefusalBy, bookReplyBy, bookTestsBy, dealAnswerBy, editionBy, lineOpenedBy, lineRefusalBy, linesAnswerBy, openingRefusalBy, printedBy, reportedBy, resultsBy, withLineBy}
+use Rattle.earlier.specs.Books.{bookRefusalBy, bookReplyBy, dealAnswerBy, editionBy, lineOpenedBy, lineRefusalBy, openingRefusalBy, printedBy, reportedBy, resultsBy, withLineBy}
 use Rattle.earlier.specs.Deals.{acceptedBy, addCollateralRefusalBy, addGuaranteeRefusalBy, collateralRefusalBy, dealOpenedBy, guaranteeRefusalBy, reportBy, reportRefusalBy, termsRefusalBy, withCollateralBy, withGuaranteeBy}
 use Rattle.earlier.specs.Rules.{inForce}
 use Rattle.earlier.proofs.Accepted.{Apart, list-more, list-passing, list-short, parts, same-truth, unrefused, whole}
-use Rattle.earlier.proofs.Lines.{Says, line-accepted, opened-edition, opening-accepted, read-says, said-edition, same-terms}
+use Rattle.earlier.proofs.Alike.{Alike, deal-same as alike-deal, printed-same as alike-printed, reply-same as alike-reply, results-same as alike-results, wrong-by-9}
+use Rattle.earlier.proofs.Lines.{Says, read-says, said-edition}
 
 -- FIELDS: what is new is a test of the edition, and one of each party's sovereign's step
 
@@ -162,7 +159,7 @@ module _ (d : Deal) where
 -- REPORTING: the tables of the first edition are those of before
 
 pub first-table : tableOf 1 ≡ tableBefore
-unfolding counterpartyWeight providerWeight atLeastSovereign hasFloor if_then_else_
+unfolding tableOf counterpartyWeight providerWeight atLeastSovereign hasFloor if_then_else_
 first-table = refl
 
 -- a deal that is accepted, of the first edition
@@ -276,146 +273,44 @@ apart = record { collateral = λ full c. refl; guarantees = λ full g. refl }
 
 -- A DEAL OF A BOOK HEADED 1
 
--- one more line, given the answer from the next line on
-module _ (opening number : ℕ) (d : Deal) (line : List ℕ) (lines : List (List ℕ)) (a : acceptedBy inForce d ≡ true) (e : d .terms .edition ≡ 1) where
-  abbrev said : Line
-  said = lineBefore line
-
-  read : lineOf (d .terms .edition) line ≡ said
-  read = ap (λ n. lineOf n line) e ∙ line-same line
-
-  abbrev refusal : ℕ
-  refusal = lineRefusalBy inForce d said
-
-  abbrev after : Deal
-  after = withLineBy inForce d said
-
-  same-refusal : lineRefusalBy beforeFloor d said ≡ refusal
-  same-refusal = sym (further-line d a said (line-old line))
-
-  one-line : (acceptedBy inForce after ≡ true → after .terms .edition ≡ 1 → linesAnswerBy inForce opening (number + 1) after lines ≡ linesAnswerBy beforeFloor opening (number + 1) after lines) →
-      linesAnswerBy inForce opening number d (line ∷ lines) ≡ linesAnswerBy beforeFloor opening number d (line ∷ lines)
-  unfolding linesAnswerBy
-  one-line later = rw read (go (eqb refusal 0) refl)
-    where
-      now : List ℕ
-      now = if eqb refusal 0 then linesAnswerBy inForce opening (number + 1) after lines else refusedAt refusal number
-
-      before : List ℕ
-      before =
-          if eqb (lineRefusalBy beforeFloor d said) 0
-          then linesAnswerBy beforeFloor opening (number + 1) (withLineBy beforeFloor d said) lines
-          else refusedAt (lineRefusalBy beforeFloor d said) number
-
-      go : (t : Bool) → eqb refusal 0 ≡ t → now ≡ before
-      go true h =
-          let none = eqb-true refusal 0 h in
-          let kept = ap (λ t. t .edition) (same-terms inForce d said) ∙ e in
-          if-true _ _ _ h
-          ∙ later (line-accepted inForce apart d said a none) kept
-          ∙ ap (λ x. linesAnswerBy beforeFloor opening (number + 1) x lines) (with-line d a said (line-old line))
-          ∙ sym (if-true _ _ _ (rw same-refusal h))
-      go false h = if-false _ _ _ h ∙ ap (λ r. refusedAt r number) (sym same-refusal) ∙ sym (if-false _ _ _ (rw same-refusal h))
-
-lines-same : (opening number : ℕ) (d : Deal) (lines : List (List ℕ)) → acceptedBy inForce d ≡ true → d .terms .edition ≡ 1 →
-    linesAnswerBy inForce opening number d lines ≡ linesAnswerBy beforeFloor opening number d lines
-unfolding linesAnswerBy
-lines-same opening number d [] a e = reported-same d a opening e
-lines-same opening number d (line ∷ lines) a e =
-    one-line opening number d line lines a e (λ b f. lines-same opening (number + 1) (withLineBy inForce d (lineBefore line)) lines b f)
+alike : Alike inForce beforeFloor 1
+alike = record {
+  apart = apart;
+  line = line-same;
+  says = λ line. subst (Says 1) (line-same line) (said-edition 1 line);
+  opening = λ line. opening-line (lineBefore line) (line-old line);
+  opened = λ line. opened-line (lineBefore line) (line-old line);
+  refusal = λ d a e line. further-line d a (lineBefore line) (line-old line);
+  added = λ d a e line. with-line d a (lineBefore line) (line-old line);
+  reported = λ d a e opening. reported-same d a opening e;
+}
 
 pub deal-same : (deal : DealLines) → dealAnswerBy inForce 1 deal ≡ dealAnswerBy beforeFloor 1 deal
-unfolding dealAnswerBy
-deal-same deal = rw (line-same (deal .opening)) (go (eqb refusal 0) refl)
-  where
-    line : Line
-    line = lineBefore (deal .opening)
+deal-same = alike-deal inForce beforeFloor 1 alike
 
-    refusal : ℕ
-    refusal = openingRefusalBy inForce line
+-- A BOOK THAT IS HEADED NEITHER 2 NOR 3
 
-    same : openingRefusalBy beforeFloor line ≡ refusal
-    same = sym (opening-line line (line-old (deal .opening)))
-
-    opened : Deal
-    opened = lineOpenedBy inForce line
-
-    now : List ℕ
-    now = if eqb refusal 0 then linesAnswerBy inForce (deal .number) (deal .number + 1) opened (deal .further) else refusedAt refusal (deal .number)
-
-    before : List ℕ
-    before =
-        if eqb (openingRefusalBy beforeFloor line) 0
-        then linesAnswerBy beforeFloor (deal .number) (deal .number + 1) (lineOpenedBy beforeFloor line) (deal .further)
-        else refusedAt (openingRefusalBy beforeFloor line) (deal .number)
-
-    go : (t : Bool) → eqb refusal 0 ≡ t → now ≡ before
-    go true h =
-        let none = eqb-true refusal 0 h in
-        let first = opened-edition inForce 1 line (subst (Says 1) (line-same (deal .opening)) (said-edition 1 (deal .opening))) none in
-        if-true _ _ _ h
-        ∙ lines-same (deal .number) (deal .number + 1) opened (deal .further) (opening-accepted inForce line none) first
-        ∙ ap (λ x. linesAnswerBy beforeFloor (deal .number) (deal .number + 1) x (deal .further)) (opened-line line (line-old (deal .opening)))
-        ∙ sym (if-true _ _ _ (rw same h))
-    go false h = if-false _ _ _ h ∙ ap (λ r. refusedAt r (deal .number)) (sym same) ∙ sym (if-false _ _ _ (rw same h))
-
-answers-same : (serial : ℕ) (deals : List DealLines) → answersBy inForce 1 serial deals ≡ answersBy beforeFloor 1 serial deals
-unfolding answersBy
-answers-same serial [] = refl
-answers-same serial (deal ∷ deals) = rw (deal-same deal, answers-same (serial + 1) deals)
-
--- A BOOK THAT IS NOT HEADED 2
-
-module _ (book : List ℕ) (not-2 : sameBytes (firstLine book) secondHeader ≡ false) where
+module _ (book : List ℕ) (not-2 : sameBytes (firstLine book) secondHeader ≡ false) (not-3 : sameBytes (firstLine book) thirdHeader ≡ false) where
   heading-same : headingOf (firstLine book) ≡ headingBefore (firstLine book)
   unfolding headingOf headingBefore if_then_else_
-  heading-same = rw not-2
+  heading-same = rw (not-2, not-3)
 
-  pub refusal-same : (n : ℕ) → bookRefusalBy inForce book n ≡ bookRefusalBy beforeFloor book n
-  unfolding bookRefusalBy bookTestsBy
-  refusal-same n = rw heading-same
-
-  deals-same : (n : ℕ) → answeredDealsBy inForce book n ≡ answeredDealsBy beforeFloor book n
-  unfolding answeredDealsBy
-  deals-same n = rw (refusal-same n)
-
-  pub reply-same : (n : ℕ) → bookReplyBy inForce book n ≡ bookReplyBy beforeFloor book n
-  unfolding bookReplyBy
-  reply-same n = rw (refusal-same n, deals-same n)
-
-  -- wrong, it is refused, and no deal of it is answered; else it is headed 1
-  wrong-refused : (n : ℕ) → isWrong (headingBefore (firstLine book)) ≡ true → answeredDealsBy beforeFloor book n ≡ []
-  unfolding answeredDealsBy bookRefusalBy bookTestsBy firstOr if_then_else_
-  wrong-refused n e = rw e (either (λ (r : ℕ). (if eqb r 0 then dealsOf book else []) ≡ []) (ltb bookLimit (length book)) (λ h. refl) (λ h. refl))
-
+  -- unless it is wrong, it is headed 1
   headed-1 : isWrong (headingBefore (firstLine book)) ≡ false → editionBy beforeFloor book ≡ 1
   unfolding headingBefore
   headed-1 = either (λ (h : Heading). isWrong h ≡ false → editionOf h ≡ 1) (sameBytes (firstLine book) firstHeader) (λ e h. refl) (λ e h. absurd (never refl h))
 
-  book-answers : (n : ℕ) → answersBy inForce (editionBy inForce book) 1 (answeredDealsBy inForce book n) ≡ answersBy beforeFloor (editionBy beforeFloor book) 1 (answeredDealsBy beforeFloor book n)
-  unfolding answersBy
-  book-answers n = rw (heading-same, deals-same n) (go (isWrong (headingBefore (firstLine book))) refl)
-    where
-      edition : ℕ
-      edition = editionBy beforeFloor book
+  book-alike : isWrong (headingBefore (firstLine book)) ≡ false → Alike inForce beforeFloor (editionBy beforeFloor book)
+  book-alike h = subst (λ edition. Alike inForce beforeFloor edition) (sym (headed-1 h)) alike
 
-      deals : List DealLines
-      deals = answeredDealsBy beforeFloor book n
-
-      go : (t : Bool) → isWrong (headingBefore (firstLine book)) ≡ t → answersBy inForce edition 1 deals ≡ answersBy beforeFloor edition 1 deals
-      go true e = rw (wrong-refused n e)
-      go false e = rw (headed-1 e) (answers-same 1 deals)
+  pub reply-same : (n : ℕ) → bookReplyBy inForce book n ≡ bookReplyBy beforeFloor book n
+  reply-same = alike-reply inForce beforeFloor book heading-same book-alike
 
   pub results-same : (list : List ℕ) → resultsBy inForce book list ≡ resultsBy beforeFloor book list
-  unfolding resultsBy
-  results-same list = ap (λ answers. overwrite answers list) (book-answers (length list))
+  results-same = alike-results inForce beforeFloor book heading-same book-alike
 
   pub printed-same : printedBy inForce book ≡ printedBy beforeFloor book
-  unfolding printedBy
-  printed-same =
-      ap (λ answers. resultText (bookRefusalBy inForce book places) (length (answeredDealsBy inForce book places)) answers) (book-answers places)
-      ∙ ap (λ r. resultText r (length (answeredDealsBy inForce book places)) (answersBy beforeFloor (editionBy beforeFloor book) 1 (answeredDealsBy beforeFloor book places))) (refusal-same places)
-      ∙ ap (λ (ds : List DealLines). resultText (bookRefusalBy beforeFloor book places) (length ds) (answersBy beforeFloor (editionBy beforeFloor book) 1 (answeredDealsBy beforeFloor book places))) (deals-same places)
+  printed-same = alike-printed inForce beforeFloor book heading-same book-alike
 
 -- a book headed 2 was refused, by 9 if it was not too long
 second-wrong : isWrong (headingBefore secondHeader) ≡ true
@@ -423,7 +318,4 @@ unfolding headingBefore sameBytes startsWith if_then_else_
 second-wrong = refl
 
 pub was-refused : (book : List ℕ) (n : ℕ) → sameBytes (firstLine book) secondHeader ≡ true → length book ≤ bookLimit → bookRefusalBy beforeFloor book n ≡ 9
-unfolding bookRefusalBy bookTestsBy firstOr if_then_else_
-was-refused book n e h =
-    let wrong : isWrong (headingBefore (firstLine book)) ≡ true = ap (λ line. isWrong (headingBefore line)) (same-equal (firstLine book) secondHeader e) ∙ second-wrong in
-    rw (le-ltb bookLimit (length book) h, wrong)
+was-refused book n e h = wrong-by-9 beforeFloor book n (ap (λ line. isWrong (headingBefore line)) (same-equal (firstLine book) secondHeader e) ∙ second-wrong) h

@@ -166,7 +166,7 @@ example-before = refl
 
 -- each field of its lines in its place, ten, eleven and nine of them, and one more is malformed; whatever edition a deal holds
 abbrev editions : List ℕ
-editions = 0 ∷ 1 ∷ 2 ∷ 3 ∷ []
+editions = 0 ∷ 1 ∷ 2 ∷ 3 ∷ 4 ∷ []
 
 lines-before :
     map (λ edition. map (beforeFloor .line edition) (
@@ -176,7 +176,7 @@ lines-before :
     ∷ bytes "D\t100\t101\t102\t103\t104\t105\t106\t107\t108\t109\t110\n"
     ∷ bytes "G\t100\t101\t102\t103\t104\t105\t106\t107\t108\t109\n"
     ∷ [])) editions
-    ≡ replicate 4 (
+    ≡ replicate 5 (
     DealLine (termsIn (100 ∷ 101 ∷ 102 ∷ 0 ∷ 103 ∷ 104 ∷ 105 ∷ 106 ∷ 107 ∷ 108 ∷ 109 ∷ 1 ∷ []))
     ∷ CollateralLine (collateralIn (100 ∷ 101 ∷ 102 ∷ 103 ∷ 104 ∷ 105 ∷ 106 ∷ 107 ∷ 108 ∷ 109 ∷ 110 ∷ []))
     ∷ GuaranteeLine (guaranteeIn (100 ∷ 101 ∷ 102 ∷ 0 ∷ 103 ∷ 104 ∷ 105 ∷ 106 ∷ 107 ∷ 108 ∷ []))
@@ -197,9 +197,9 @@ abbrev each-step : (ℕ → ℕ → ℕ → ℕ) → List (List (List ℕ))
 each-step weight = map (λ k. map (λ c. map (λ s. weight c s k) (0 ∷ 1 ∷ 2 ∷ 3 ∷ 4 ∷ 5 ∷ 6 ∷ [])) (1 ∷ 2 ∷ 3 ∷ [])) (0 ∷ 1 ∷ 6 ∷ [])
 
 weights-before :
-    (map (λ table. each-step (table .counterpartyWeight)) tables-before ≡ replicate 4 (replicate 3 paper))
-    × (map (λ table. each-step (table .providerWeight)) tables-before ≡ replicate 4 (replicate 3 paper))
-    × (map (λ table. map (table .counterpartyWeight 4 0) (0 ∷ 1 ∷ 6 ∷ [])) tables-before ≡ replicate 4 (replicate 3 75))
+    (map (λ table. each-step (table .counterpartyWeight)) tables-before ≡ replicate 5 (replicate 3 paper))
+    × (map (λ table. each-step (table .providerWeight)) tables-before ≡ replicate 5 (replicate 3 paper))
+    × (map (λ table. map (table .counterpartyWeight 4 0) (0 ∷ 1 ∷ 6 ∷ [])) tables-before ≡ replicate 5 (replicate 3 75))
 unfolding worked
 weights-before = (refl, refl, refl)
 
@@ -207,7 +207,7 @@ weights-before = (refl, refl, refl)
 reports-before :
     map (λ edition. reportBy beforeFloor (dealWith (termsIn (1000 ∷ 3 ∷ 0 ∷ 6 ∷ 978 ∷ 3 ∷ 1 ∷ 1800 ∷ 1 ∷ 0 ∷ 0 ∷ edition ∷ [])) []
     (guaranteeIn (600 ∷ 2 ∷ 0 ∷ 4 ∷ 978 ∷ 1800 ∷ 1800 ∷ 1 ∷ 1 ∷ 1 ∷ []) ∷ [])) .rwa) editions
-    ≡ replicate 4 700
+    ≡ replicate 5 700
 unfolding worked reportBy acceptedBy termsRefusalBy collateralRefusalBy guaranteeRefusalBy
 reports-before = refl
 
@@ -217,7 +217,7 @@ fields-now :
     map (λ edition. dealWith (termsIn (0 ∷ 2 ∷ 0 ∷ 6 ∷ 0 ∷ 0 ∷ 0 ∷ 0 ∷ 0 ∷ 0 ∷ 0 ∷ edition ∷ [])) [] []) editions
     ++ map (λ s. dealWith (termsIn (0 ∷ 4 ∷ 0 ∷ s ∷ 0 ∷ 0 ∷ 0 ∷ 0 ∷ 0 ∷ 0 ∷ 0 ∷ 2 ∷ [])) [] []) (0 ∷ 1 ∷ [])
     ++ map (λ s. dealWith (termsIn (0 ∷ 2 ∷ 0 ∷ 6 ∷ 0 ∷ 0 ∷ 0 ∷ 0 ∷ 0 ∷ 0 ∷ 0 ∷ 2 ∷ [])) [] (zeroGuarantee ∷ guaranteeIn (0 ∷ 3 ∷ 0 ∷ s ∷ []) ∷ [])) (6 ∷ 7 ∷ []))
-    ≡ false ∷ true ∷ true ∷ false ∷ true ∷ false ∷ true ∷ false ∷ []
+    ≡ false ∷ true ∷ true ∷ true ∷ false ∷ true ∷ false ∷ true ∷ false ∷ []
 unfolding worked
 fields-now = refl
 

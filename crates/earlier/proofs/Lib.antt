@@ -1,8 +1,11 @@
 pub mod Accepted
 pub mod Lines
+pub mod Alike
 pub mod Fields
 pub mod Days
 pub mod DaysInBooks
 pub mod Now
 pub mod BeforeFloor
+pub mod Before2023
 pub mod Examples
+pub mod Examples2023

@@ -1,4 +1,5 @@
 pub mod BeforeFloor
+pub mod Before2023
 pub mod Books
 pub mod Days
 pub mod Deals

@@ -153,7 +153,8 @@ layout-2 :
 layout-2 = refl
 
 -- a party's sovereign's step and the edition, on numbers (02: L5): an unrated bank under a sovereign of step 6 and one that backs it under
--- one of step 4, opened, added and reported. 150 and 100 under the second edition, 50 both under the first, where nothing is recognised
+-- one of step 4, opened, added and reported. 150 and 100 under the second edition; 50 both under the first, and 150 both under the third (02:
+-- L9), where nothing is recognised
 abbrev floored : ℕ → List ℕ
 floored edition =
     numbersWithGuarantee (openedNumbers (1000 ∷ 2 ∷ 0 ∷ 6 ∷ 978 ∷ 3 ∷ 1 ∷ 1800 ∷ 1 ∷ 0 ∷ 0 ∷ edition ∷ []))
@@ -162,6 +163,7 @@ floored edition =
 floored-reported :
     (listAfter (floored 2) (replicate 83 7) ≡ 1000 ∷ (replicate 32 0 ++ 600 ∷ 0 ∷ 600 ∷ (replicate 45 0 ++ 400 ∷ 1200 ∷ [])))
     × (listAfter (floored 1) (replicate 83 7) ≡ 1000 ∷ (replicate 32 0 ++ 0 ∷ 29 ∷ 0 ∷ (replicate 45 0 ++ 1000 ∷ 500 ∷ [])))
-    × (floored 3 ≡ replicate 350 0)
+    × (listAfter (floored 3) (replicate 83 7) ≡ 1000 ∷ (replicate 32 0 ++ 0 ∷ 29 ∷ 0 ∷ (replicate 45 0 ++ 1000 ∷ 1500 ∷ [])))
+    × (floored 4 ≡ replicate 350 0)
 unfolding built computed reportingRefusal listAfter reportNumbers reportIn dealIn slices inOrder answerNumber if_then_else_
-floored-reported = (refl, refl, refl)
+floored-reported = (refl, refl, refl, refl)

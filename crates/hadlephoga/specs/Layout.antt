@@ -1,10 +1,10 @@
 -- The number of the layout: what callers in other languages may rely on. 02: L5 changes it for the first time.
 --
 -- THE RULE OF CHANGE. The layout is how many numbers there are of terms, of an item, of a record and of a report, their order and what each of
--- them means; the arguments of the operations; and what the numbers of refusals and grounds mean. Whenever any of it changes, the number rises by
--- 1, in the same landing, and the header says what changed. While the number stays, a program that was built for it gets, for every call that was
--- taken, the answer it would have got before; what was refused may be taken later (as a longer term is since L11). An operation that is new beside the
--- others leaves the number alone.
+-- them means; the arguments of the operations; and what the numbers of refusals and grounds mean. Whenever any of it changes, the number rises
+-- by 1, in the same landing, and the header says what changed. While the number stays, a program that was built for it gets, for every call
+-- that was taken, the answer it would have got before; what was refused may be taken later (as a longer term is since L11, and edition 3 since
+-- L9). An operation that is new beside the others leaves the number alone.
 use Prim.Native.Nat.{ℕ}
 
 -- 1: document 01: terms 10, guarantee 9, record 332. It had no number that could be asked for

@@ -224,6 +224,23 @@ fields-in-place-2 :
 unfolding lineOf widthUnder withSovereign dealLine collateralLine guaranteeLine ifRead fieldsOf withNumber andThen isEnd fieldOf numberOf numberRead numberAllowed digitsOf decimalFrom within if_then_else_
 fields-in-place-2 = refl
 
+-- under the third heading they are as under the second, but for the edition. 02: L9
+fields-in-place-3 :
+    map (lineOf 3) (
+    bytes "D\t101\t102\t103\t104\t105\t106\t107\t108\t109\t110\t111\n"
+    ∷ bytes "C\t101\t102\t103\t104\t105\t106\t107\t108\t109\t110\t111\n"
+    ∷ bytes "G\t101\t102\t103\t104\t105\t106\t107\t108\t109\t110\n"
+    ∷ bytes "D\t101\t102\t103\t105\t106\t107\t108\t109\t110\t111\n"
+    ∷ bytes "G\t101\t102\t103\t105\t106\t107\t108\t109\t110\n"
+    ∷ bytes "\n"
+    ∷ [])
+    ≡ DealLine (termsIn (101 ∷ 102 ∷ 103 ∷ 104 ∷ 105 ∷ 106 ∷ 107 ∷ 108 ∷ 109 ∷ 110 ∷ 111 ∷ 3 ∷ []))
+    ∷ CollateralLine (collateralIn (101 ∷ 102 ∷ 103 ∷ 104 ∷ 105 ∷ 106 ∷ 107 ∷ 108 ∷ 109 ∷ 110 ∷ 111 ∷ []))
+    ∷ GuaranteeLine (guaranteeIn (101 ∷ 102 ∷ 103 ∷ 104 ∷ 105 ∷ 106 ∷ 107 ∷ 108 ∷ 109 ∷ 110 ∷ []))
+    ∷ replicate 3 Malformed
+unfolding lineOf widthUnder withSovereign dealLine collateralLine guaranteeLine ifRead fieldsOf withNumber andThen isEnd fieldOf numberOf numberRead numberAllowed digitsOf decimalFrom within if_then_else_
+fields-in-place-3 = refl
+
 -- under either heading the other's lines D and G are malformed, and lines C are the same
 abbrev lines-1 : List (List ℕ)
 lines-1 = bytes "D\t500\t2\t0\t978\t3\t1\t30\t1\t0\t0\n" ∷ bytes "G\t500\t2\t0\t978\t30\t30\t1\t1\t1\n" ∷ []

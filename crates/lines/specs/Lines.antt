@@ -1,4 +1,4 @@
--- What a line says, by the edition that the heading says. 01: The book; the fields in the order of What a deal holds; 02: L5
+-- What a line says, by the edition that the heading says. 01: The book; the fields in the order of What a deal holds; 02: L5, L9
 use Prim.Native.Nat.{ℕ, _-_}
 use mathlib.Core.List.{List, [], _∷_}
 use mathlib.Core.Option.{Option, none, some}

@@ -1,4 +1,4 @@
--- The sovereign's step in a line, by the edition that the heading says. 02: L5
+-- The sovereign's step in a line, by the edition that the heading says. 02: L5, L9
 use Prim.Native.Nat.{ℕ, _-_}
 use mathlib.Core.Bool.{Bool}
 use mathlib.Core.List.{List, _∷_, _++_}
@@ -7,7 +7,7 @@ use lib.ListN.{take, drop}
 use Rattle.base.specs.Choice.{if_then_else_}
 
 -- "D lines gain, after the step, the step of that sovereign. G and S lines gain it in the same place", and "a book headed 1 reads as before":
--- its lines leave it out
+-- its lines leave it out. Headed 3, "lines as under 2"
 abbrev pub leavesOutSovereign : ℕ → Bool
 leavesOutSovereign edition = eqb edition 1
 

@@ -3,13 +3,13 @@ use Prim.Native.Nat.{ℕ}
 use mathlib.Core.Path.{_≡_, refl}
 use mathlib.Core.List.{List, [], _∷_, map}
 use lib.ListN.{getD, replicate, take}
-use Rattle.deal.specs.Fields.{guaranteeIn, termsIn}
+use Rattle.deal.specs.Fields.{collateralIn, guaranteeIn, termsIn}
 use Rattle.deal.specs.Records.{dealWith}
 use Rattle.deal.specs.declared.terms.Terms.{Terms}
 use Rattle.deal.specs.declared.collateral.Collateral.{Collateral}
 use Rattle.deal.specs.declared.guarantee.Guarantee.{Guarantee}
 use Rattle.relief.specs.Outcomes.{outcomeValue, outcomeGround}
-use Rattle.relief.specs.Report.{noGuarantee, reportOf}
+use Rattle.relief.specs.Report.{noCollateral, noGuarantee, reportOf}
 use Rattle.relief.proofs.Computed.{computed}
 
 -- secured lending in cash to a corporate at this step, for 1,800 days
@@ -196,3 +196,45 @@ pub provider-floor :
     × ((outcomes 2 2 1 ≡ replicate 4 (0 ∷ 3300 ∷ [])) × (outcomes 2 3 0 ≡ replicate 4 (28 ∷ 15000 ∷ []))))
 unfolding computed
 provider-floor = (refl, (refl, (refl, refl)))
+
+-- THE TABLES BY EDITION. 02: L9
+
+-- 1,000,000 lent in goods of a type, step and life, of kind 2 revalued daily, against 500,000 in cash: the exposure under each edition
+abbrev lentOut : ℕ → ℕ → ℕ → List ℕ
+lentOut goods step life =
+    map (λ edition. reportOf (dealWith (termsIn (1000000 ∷ 3 ∷ 0 ∷ 0 ∷ 978 ∷ 2 ∷ 1 ∷ 1800 ∷ goods ∷ step ∷ life ∷ edition ∷ []))
+    (collateralIn (500000 ∷ 1 ∷ 0 ∷ 0 ∷ 978 ∷ 1800 ∷ 1800 ∷ 1 ∷ 1 ∷ 1 ∷ 0 ∷ []) ∷ []) []) .exposure) (1 ∷ 2 ∷ 3 ∷ [])
+
+lent-by-edition :
+    lentOut 3 1 1080 ∷ lentOut 3 1 3600 ∷ lentOut 4 2 1080 ∷ lentOut 4 3 3601 ∷ lentOut 2 1 1080 ∷ lentOut 7 0 0 ∷ lentOut 8 0 0 ∷ lentOut 6 1 360 ∷ lentOut 1 0 0 ∷ []
+    ≡ (540000 ∷ 540000 ∷ 530000 ∷ [])
+    ∷ (580000 ∷ 580000 ∷ 560000 ∷ [])
+    ∷ (560000 ∷ 560000 ∷ 540000 ∷ [])
+    ∷ (620000 ∷ 620000 ∷ 700000 ∷ [])
+    ∷ (520000 ∷ 520000 ∷ 520000 ∷ [])
+    ∷ (650000 ∷ 650000 ∷ 700000 ∷ [])
+    ∷ (750000 ∷ 750000 ∷ 800000 ∷ [])
+    ∷ (750000 ∷ 750000 ∷ 800000 ∷ [])
+    ∷ (500000 ∷ 500000 ∷ 500000 ∷ [])
+    ∷ []
+unfolding computed
+lent-by-edition = refl
+
+-- 10,000 pledged, listed where it is bank paper: its value
+abbrev pledgedIn : ℕ → ℕ → ℕ → List ℕ
+pledgedIn goods step life =
+    map (λ edition. outcomeValue (getD (reportOf (dealWith (termsIn (1000000 ∷ 3 ∷ 0 ∷ 0 ∷ 978 ∷ 2 ∷ 1 ∷ 1800 ∷ 1 ∷ 0 ∷ 0 ∷ edition ∷ []))
+    (collateralIn (10000 ∷ goods ∷ step ∷ life ∷ 978 ∷ 1800 ∷ 1800 ∷ 1 ∷ 1 ∷ 1 ∷ 1 ∷ []) ∷ []) []) .collateral) 0 noCollateral .outcome)) (1 ∷ 2 ∷ 3 ∷ [])
+
+pledged-by-edition :
+    pledgedIn 3 1 1080 ∷ pledgedIn 4 0 3600 ∷ pledgedIn 4 2 3601 ∷ pledgedIn 5 1 1080 ∷ pledgedIn 7 0 0 ∷ pledgedIn 8 0 0 ∷ pledgedIn 9 0 0 ∷ []
+    ≡ (9600 ∷ 9600 ∷ 9700 ∷ [])
+    ∷ (8800 ∷ 8800 ∷ 8800 ∷ [])
+    ∷ (8800 ∷ 8800 ∷ 8000 ∷ [])
+    ∷ (9200 ∷ 9200 ∷ 9200 ∷ [])
+    ∷ (8500 ∷ 8500 ∷ 8000 ∷ [])
+    ∷ (7500 ∷ 7500 ∷ 7000 ∷ [])
+    ∷ (8500 ∷ 8500 ∷ 8000 ∷ [])
+    ∷ []
+unfolding computed
+pledged-by-edition = refl

@@ -8,6 +8,8 @@ use Rattle.base.specs.Rounding.{roundUp}
 use Rattle.base.specs.Sum.{sumOf}
 use Rattle.tables.specs.Eligibility.{eligible, bankDebtEligible, equityOrGold}
 use Rattle.tables.specs.Haircuts.{rowOf, bandOf, issuerColumn, debtHaircut, haircut, lentHaircut}
+use Rattle.tables.specs.Table.{tableOf}
+use Rattle.tables.specs.Version2023.{bandOf2023, counterpartyWeight2023, debtHaircut2023, haircut2023, lentHaircut2023, otherIssuersHaircut2023, ownWeight2023, providerWeight2023, tableWeight2023}
 use Rattle.tables.specs.Weights.{atLeastSovereign, counterpartyWeight, hasFloor, ownWeight, providerWeight, stepColumn, tableWeight}
 use Rattle.scaling.specs.Period.{minimumPeriod, holdingPeriod, guaranteePeriod}
 use Rattle.scaling.specs.Scaling.{scaled}
@@ -33,5 +35,5 @@ use Rattle.relief.specs.Exposure.{scaledLentHaircut, adjustedExposureOf,
 use Rattle.relief.specs.Report.{fullReport, reportUnder, reportOf}
 
 unfoldable pub computed : Deal → Report
-unfolding accepted recordAllowed tableFor collateralListAllowed guaranteeListAllowed termsRefusal termsTests collateralRefusal collateralTests guaranteeRefusal guaranteeTests firstOr within partyStepAllowed sovereignStepAllowed partyStepsAllowed assetStepAllowed lifeAllowed if_then_else_ least between roundUp sumOf zipWith eligible bankDebtEligible equityOrGold rowOf bandOf issuerColumn debtHaircut haircut lentHaircut stepColumn tableWeight ownWeight hasFloor atLeastSovereign counterpartyWeight providerWeight minimumPeriod holdingPeriod guaranteePeriod scaled scaledCurrencyHaircut combinedHaircut keepShare volatilityAdjustedValue mismatched maturityAdjusted recognised volatilityAdjustedExposure riskWeightedAmount lowerWeighted equal before portion coveredAfter covered uncovered weightedSum groundNumber groundWith outcomeValue outcomeGround outcomeFor shortOriginal shortResidual combinedHaircutOf collateralValue collateralGrounds collateralGround collateralOutcome guaranteeValue guaranteeGrounds guaranteeGround guaranteeOutcome scaledLentHaircut adjustedExposureOf collateralTotal exposureAfter riskWeightedAmountOf fullReport reportUnder
+unfolding accepted recordAllowed tableFor tableOf collateralListAllowed guaranteeListAllowed termsRefusal termsTests collateralRefusal collateralTests guaranteeRefusal guaranteeTests firstOr within partyStepAllowed sovereignStepAllowed partyStepsAllowed assetStepAllowed lifeAllowed if_then_else_ least between roundUp sumOf zipWith eligible bankDebtEligible equityOrGold rowOf bandOf issuerColumn debtHaircut haircut lentHaircut stepColumn tableWeight ownWeight hasFloor atLeastSovereign counterpartyWeight providerWeight bandOf2023 otherIssuersHaircut2023 debtHaircut2023 haircut2023 lentHaircut2023 tableWeight2023 ownWeight2023 counterpartyWeight2023 providerWeight2023 minimumPeriod holdingPeriod guaranteePeriod scaled scaledCurrencyHaircut combinedHaircut keepShare volatilityAdjustedValue mismatched maturityAdjusted recognised volatilityAdjustedExposure riskWeightedAmount lowerWeighted equal before portion coveredAfter covered uncovered weightedSum groundNumber groundWith outcomeValue outcomeGround outcomeFor shortOriginal shortResidual combinedHaircutOf collateralValue collateralGrounds collateralGround collateralOutcome guaranteeValue guaranteeGrounds guaranteeGround guaranteeOutcome scaledLentHaircut adjustedExposureOf collateralTotal exposureAfter riskWeightedAmountOf fullReport reportUnder
 computed d = reportOf d

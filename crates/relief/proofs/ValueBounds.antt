@@ -11,7 +11,7 @@ use Rattle.base.specs.All.{allPass}
 use Rattle.base.proofs.All.{all-map, all-implied}
 use Rattle.base.proofs.Tests.{and-true}
 use Rattle.tables.specs.Table.{Table}
-use Rattle.tables.proofs.Bounds.{lent-bound, counterparty-bound, provider-bound}
+use Rattle.tables.proofs.EditionBounds.{counterparty-low as counterparty-light, lent-low, provider-low as provider-light}
 use Rattle.scaling.proofs.Scaled.{scaled-bound}
 use Rattle.scaling.proofs.Periods.{period-bound}
 use Rattle.valuation.proofs.Values.{recognised-le}
@@ -53,17 +53,17 @@ module _ (table : Table) (t : Terms) where
 pub scaled-lent-haircut-bound : (t : Terms) → PlainTerms t → scaledLentHaircut (tableFor t) t ≤ 10000000
 unfolding scaledLentHaircut tableFor
 scaled-lent-haircut-bound t p =
-    let h : tableFor t .lentHaircut (t .lent .goods) (t .lent .step) (t .lent .life) ≤ 1000000 = omega (arith, lent-bound (t .lent .goods) (t .lent .step) (t .lent .life)) in
+    let h : tableFor t .lentHaircut (t .lent .goods) (t .lent .step) (t .lent .life) ≤ 1000000 = omega (arith, lent-low (t .edition) (t .lent .goods) (t .lent .step) (t .lent .life)) in
     scaled-bound h (omega (arith, period-bound (t .kind) (t .interval), p .interval))
 
 -- the parties' weights, to 150
 pub counterparty-low : (t : Terms) → PlainTerms t → counterpartyWeightOf (tableFor t) t ≤ 1000
 unfolding tableFor
-counterparty-low t p = omega (arith, counterparty-bound (t .edition) (t .counterparty .class) (t .counterparty .step) (t .counterparty .«sovereign_step») (p .class .1) (p .step) (p .«sovereign_step»))
+counterparty-low t p = omega (arith, counterparty-light (t .edition) (t .counterparty .class) (t .counterparty .step) (t .counterparty .«sovereign_step») (p .class .1) (p .step) (p .«sovereign_step»))
 
 provider-low : (t : Terms) (g : Guarantee) → PlainGuarantee g → providerWeightOf (tableFor t) g ≤ 1000
 unfolding tableFor
-provider-low t g p = omega (arith, provider-bound (t .edition) (g .provider .class) (g .provider .step) (g .provider .«sovereign_step») (p .class .1) (p .step) (p .«sovereign_step»))
+provider-low t g p = omega (arith, provider-light (t .edition) (g .provider .class) (g .provider .step) (g .provider .«sovereign_step») (p .class .1) (p .step) (p .«sovereign_step»))
 
 -- what covers: values to the limit of an amount, and these weights
 pub pieces-small : (t : Terms) (gs : List Guarantee) → allPass gs (λ g. eqb (guaranteeRefusal g) 0) ≡ true → allPass (map (protectionOf (tableFor t) t) gs) withinLimits ≡ true

@@ -1,4 +1,4 @@
--- The risk weights of a deal's parties, under a table. 01: Risk weights in percent; 02: L5
+-- The risk weights of a deal's parties, under a table. 01: Risk weights in percent; 02: L5, L9
 use Prim.Native.Nat.{ℕ}
 use Rattle.tables.specs.Table.{Table}
 use Rattle.deal.specs.declared.terms.Terms.{Terms}

@@ -21,8 +21,8 @@ use deal::collateral::CollateralList;
 use deal::deal::Deal;
 use deal::terms::Terms;
 use scaling::factor::TimeFactor;
+use tables::editions::haircut_under;
 use tables::eligibility::eligible;
-use tables::haircuts::haircut;
 use valuation::haircuts::combined_haircut;
 use valuation::protection::recognised;
 
@@ -69,7 +69,7 @@ pub fn collateral_outcome(terms: Terms, item: Collateral, factor: TimeFactor) ->
     ensures { λ r. ⌜ r ≡ collateralOutcome (tableFor terms) terms item ⌝ }
 {
     let asset = item.asset;
-    let own = haircut(asset.goods, asset.step, asset.life);
+    let own = haircut_under(terms.edition, asset.goods, asset.step, asset.life);
     let haircut = combined_haircut(factor, own, item.currency, terms.currency);
     outcome_after_haircut(terms, item, haircut)
 }

@@ -9,7 +9,7 @@ ghost use Rattle.relief.specs.Exposure.{scaledLentHaircut, adjustedExpos
 use base::smaller;
 use deal::terms::Terms;
 use scaling::factor::TimeFactor;
-use tables::haircuts::lent_haircut;
+use tables::editions::lent_haircut_under;
 use valuation::exposure::volatility_adjusted_exposure;
 
 // The haircut of the goods lent, over the deal's holding period.
@@ -18,7 +18,8 @@ pub fn scaled_lent_haircut(terms: Terms, factor: TimeFactor) -> u64
     ensures { λ r. ⌜ r ≡ scaledLentHaircut (tableFor terms) terms ⌝ }
 {
     let lent = terms.lent;
-    factor.scale(lent_haircut(lent.goods, lent.step, lent.life))
+    let haircut = lent_haircut_under(terms.edition, lent.goods, lent.step, lent.life);
+    factor.scale(haircut)
 }
 
 // The exposure, volatility-adjusted by that haircut, less the collateral's total, and never more than the deal's amount.

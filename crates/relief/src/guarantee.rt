@@ -17,7 +17,7 @@ use deal::guarantee::Guarantee;
 use deal::terms::Terms;
 use scaling::factor::TimeFactor;
 use tables::classes::OTHER_ENTITY;
-use tables::weights::provider_weight;
+use tables::editions::provider_weight_under;
 use valuation::haircuts::scaled_currency_haircut;
 use valuation::protection::recognised;
 
@@ -92,7 +92,7 @@ pub fn guarantee_outcome(
     ensures { λ r. ⌜ (r .outcome ≡ guaranteeOutcome (tableFor terms) terms item) × (r .protection ≡ protectionOf (tableFor terms) terms item) ⌝ }
 {
     let provider = item.provider;
-    let weight = provider_weight(
+    let weight = provider_weight_under(
         terms.edition,
         provider.class,
         provider.step,

@@ -4,7 +4,7 @@ ghost use Rattle.deal.specs.Editions.{tableFor};
 ghost use Rattle.deal.specs.Terms.{termsRefusal};
 ghost use Rattle.relief.specs.Weights.{counterpartyWeightOf};
 use deal::terms::Terms;
-use tables::weights::counterparty_weight;
+use tables::editions::counterparty_weight_under;
 
 // Under the deal's own tables.
 pub fn weight_of(terms: Terms) -> u64
@@ -12,7 +12,7 @@ pub fn weight_of(terms: Terms) -> u64
     ensures { λ r. ⌜ r ≡ counterpartyWeightOf (tableFor terms) terms ⌝ }
 {
     let counterparty = terms.counterparty;
-    counterparty_weight(
+    counterparty_weight_under(
         terms.edition,
         counterparty.class,
         counterparty.step,

@@ -1,11 +1,11 @@
 -- A haircut depends on the issue life by its band alone. Assumes nothing.
-use Prim.Native.Nat.{ℕ, zero, suc, _<_}
-use mathlib.Core.Path.{_≡_, refl}
+use Prim.Native.Nat.{ℕ, zero, suc, _≤_, _<_}
+use mathlib.Core.Path.{_≡_, refl, _∙_}
 use native.Mathlib.Omega.{arith}
 use lib.Dec.{leb, eqb}
-use borrow.Author.Tests.{eqb-true}
+use borrow.Author.Tests.{eqb-true, le-leb, lt-leb}
 use Rattle.base.specs.Choice.{if_then_else_}
-use Rattle.base.proofs.Choice.{either}
+use Rattle.base.proofs.Choice.{either, if-false, if-true}
 use Rattle.base.proofs.Every.{every-at}
 use Rattle.tables.specs.Haircuts.{bandOf, debtHaircut, haircut, lentHaircut}
 
@@ -13,6 +13,19 @@ pub band-below : (life : ℕ) → bandOf life < 3
 unfolding bandOf
 band-below life =
     either (λ b. b < 3) (leb life 360) (λ e. omega arith) (λ e. either (λ b. b < 3) (leb life 1800) (λ e. omega arith) (λ e. omega arith))
+
+-- each band by its first and last day
+pub first-band : (life : ℕ) → life ≤ 360 → bandOf life ≡ 0
+unfolding bandOf
+first-band life h = if-true _ _ _ (le-leb life 360 h)
+
+pub middle-band : (life : ℕ) → 361 ≤ life → life ≤ 1800 → bandOf life ≡ 1
+unfolding bandOf
+middle-band life l h = if-false _ _ _ (lt-leb life 360 l) ∙ if-true _ _ _ (le-leb life 1800 h)
+
+pub last-band : (life : ℕ) → 1801 ≤ life → bandOf life ≡ 2
+unfolding bandOf
+last-band life l = if-false _ _ _ (lt-leb life 360 (omega arith)) ∙ if-false _ _ _ (lt-leb life 1800 l)
 
 -- a life of each band
 abbrev pub sample : ℕ → ℕ

@@ -1,4 +1,4 @@
--- Bounds of the figures, whatever the arguments: what the sums and products above them need to fit. Assumes nothing.
+-- Bounds of the figures of 2019, whatever the arguments. Assumes nothing.
 use Prim.Native.Nat.{ℕ, _-_, _≤_, _<_}
 use mathlib.Core.Path.{refl}
 use mathlib.Core.Bool.{Bool}
@@ -17,7 +17,7 @@ use Rattle.tables.specs.Haircuts.{cell, rowOf, bandOf, issuerColumn, deb
 use Rattle.tables.specs.Weights.{atLeastSovereign, counterpartyWeight, ownWeight, providerWeight, stepColumn, tableWeight, weights}
 use Rattle.tables.proofs.Bands.{band-below}
 
-row-below : (step : ℕ) → rowOf step < 3
+pub row-below : (step : ℕ) → rowOf step < 3
 unfolding rowOf
 row-below step =
     either (λ r. r < 3) (eqb step 1) (λ e. omega arith) (λ e. either (λ r. r < 3) (eqb step 4) (λ e. omega arith) (λ e. omega arith))
@@ -31,7 +31,7 @@ column-below goods =
 abbrev small : ℕ → ℕ → ℕ → Bool
 small r b c = leb (cell r b c) 250000
 
-debt-bound : (goods step life : ℕ) → debtHaircut goods step life ≤ 250000
+pub debt-bound : (goods step life : ℕ) → debtHaircut goods step life ≤ 250000
 unfolding debtHaircut
 debt-bound goods step life =
     leb-true _ _
@@ -58,17 +58,17 @@ lent-bound goods step life =
 abbrev weightBounded : ℕ → ℕ → Bool
 weightBounded c s = leb (getD (getD weights c []) (stepColumn s) 0) 150
 
-table-bound : (class step : ℕ) → class ≤ 3 → step ≤ 6 → tableWeight class step ≤ 150
+pub table-bound : (class step : ℕ) → class ≤ 3 → step ≤ 6 → tableWeight class step ≤ 150
 unfolding tableWeight stepColumn if_then_else_
 table-bound class step hc hs =
     leb-true _ _ (every-at 7 (weightBounded (class - 1)) (every-at 3 (λ c. every 7 (weightBounded c)) refl (class - 1) (omega arith)) step (omega arith))
 
-own-bound : (class step : ℕ) → class ≤ 4 → step ≤ 6 → ownWeight class step ≤ 150
+pub own-bound : (class step : ℕ) → class ≤ 4 → step ≤ 6 → ownWeight class step ≤ 150
 unfolding ownWeight
 own-bound class step hc hs =
     either (λ w. w ≤ 150) (eqb class retail) (λ e. omega arith) (λ e. table-bound class step (omega (arith, eqb-false class retail e)) hs)
 
-floor-bound : (applies : Bool) (own sovereignStep : ℕ) → own ≤ 150 → sovereignStep ≤ 6 → atLeastSovereign applies own sovereignStep ≤ 150
+pub floor-bound : (applies : Bool) (own sovereignStep : ℕ) → own ≤ 150 → sovereignStep ≤ 6 → atLeastSovereign applies own sovereignStep ≤ 150
 unfolding atLeastSovereign
 floor-bound applies own sovereignStep ho hs =
     either (λ w. w ≤ 150) applies (λ e. omega (arith, table-bound sovereign sovereignStep (omega arith) hs)) (λ e. ho)

@@ -1,8 +1,15 @@
 pub mod Printed
+pub mod Printed2023
 pub mod Equity
 pub mod Listed
 pub mod ByStep
 pub mod Bands
+pub mod Bands2023
 pub mod Floor
+pub mod TableTest
 pub mod Laws
+pub mod Versions
 pub mod Bounds
+pub mod Bounds2023
+pub mod EditionBounds
+pub mod Cells2023

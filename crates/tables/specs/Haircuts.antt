@@ -1,5 +1,5 @@
--- Standard supervisory haircuts in millionths, for a holding period of ten business days. CRE22.44 to CRE22.47;
--- 01: Haircuts in millionths. A year is 360 days
+-- Standard supervisory haircuts in millionths, for a holding period of ten business days, version of 2019 (editions 1 and 2). CRE22.44 to CRE22.47;
+-- 01: Haircuts in millionths. A year is 360 days. The currency haircut is that of every version
 use Prim.Native.Nat.{ℕ}
 use mathlib.Core.List.{List, [], _∷_}
 use lib.Dec.{leb, eqb}

@@ -4,4 +4,5 @@ pub mod Kinds
 pub mod Eligibility
 pub mod Haircuts
 pub mod Weights
+pub mod Version2023
 pub mod Table

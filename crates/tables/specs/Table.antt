@@ -1,13 +1,16 @@
--- The figures that depend on type, class and step, as one set, and laws of such a set that suffice for 01: Betterments:
+-- The figures that depend on type, class and step, as one set, by edition, and laws of such a set that suffice for 01: Betterments:
 -- with them a better step of goods, of a provider or of its sovereign, or a listing, never raises the weighted amount
 use Prim.Native.Nat.{ℕ, _≤_}
 use mathlib.Core.Path.{_≡_}
 use mathlib.Core.Bool.{Bool, true}
+use lib.Dec.{eqb}
+use Rattle.base.specs.Choice.{if_then_else_}
 use Rattle.tables.specs.Classes.{sovereign, otherEntity}
 use Rattle.tables.specs.Goods.{cash, gold}
 use Rattle.tables.specs.Eligibility
 use Rattle.tables.specs.Haircuts
 use Rattle.tables.specs.Weights
+use Rattle.tables.specs.Version2023
 
 pub record Table : Type 0 where
   -- by type, step and the condition "listed senior bank paper"
@@ -19,16 +22,31 @@ pub record Table : Type 0 where
   pub counterpartyWeight : ℕ → ℕ → ℕ → ℕ
   pub providerWeight : ℕ → ℕ → ℕ → ℕ
 
--- the tables of an edition: 1 is CRE20 and CRE22, version of 2019, as document 01 reads them, which is without the sovereign floor of CRE20.11 and
--- CRE20.17; 2 is the same with it (02: L5). Other editions are refused by opening, adding and reporting
-abbrev pub tableOf : ℕ → Table
-tableOf edition = record {
+-- CRE20 and CRE22, version of 2019, as document 01 reads them: for edition 1 without the sovereign floor of CRE20.11 and CRE20.17, for edition 2 with
+-- it (02: L5)
+abbrev pub table2019 : ℕ → Table
+table2019 edition = record {
   eligible = Eligibility.eligible;
   haircut = Haircuts.haircut;
   lentHaircut = Haircuts.lentHaircut;
   counterpartyWeight = Weights.counterpartyWeight edition;
   providerWeight = Weights.providerWeight edition;
 }
+
+-- the version of 2023, with the floor (02: L9)
+abbrev pub table2023 : Table
+table2023 = record {
+  eligible = Eligibility.eligible;
+  haircut = Version2023.haircut2023;
+  lentHaircut = Version2023.lentHaircut2023;
+  counterpartyWeight = Version2023.counterpartyWeight2023;
+  providerWeight = Version2023.providerWeight2023;
+}
+
+-- the tables of an edition, which is the number in a book's header: 3 chooses the version of 2023. Editions but 1, 2 and 3 are refused by opening,
+-- adding and reporting
+unfoldable pub tableOf : ℕ → Table
+tableOf edition = if eqb edition Version2023.edition2023 then table2023 else table2019 edition
 
 -- a type of goods
 abbrev pub Goods : ℕ → Type 0
@@ -42,6 +60,7 @@ Provider class = (sovereign ≤ class) × (class ≤ otherEntity)
 abbrev pub NoWorseStep : ℕ → ℕ → Type 0
 NoWorseStep step′ step = (1 ≤ step′) × ((step′ ≤ step) × (step ≤ 6))
 
+-- WHAT ANY SET OF TABLES MUST HAVE for betterments never to raise the weighted amount. 02: L9
 pub record TableLaws (t : Table) : Type 0 where
   -- a better step stays eligible
   pub step-eligible :

@@ -1,5 +1,5 @@
--- Risk weights in percent. CRE20.4, CRE20.14 option 2, CRE20.17, CRE20.20; 01: Risk weights in percent; and the sovereign floor of
--- CRE20.11, CRE20.17; 02: L5. Other classes and steps are refused by opening, adding and reporting
+-- Risk weights in percent, version of 2019 (editions 1 and 2). CRE20.4, CRE20.14 option 2, CRE20.17, CRE20.20; 01: Risk weights in percent;
+-- and the sovereign floor of CRE20.11, CRE20.17; 02: L5. Other classes and steps are refused by opening, adding and reporting
 use Prim.Native.Nat.{ℕ, _-_, max}
 use mathlib.Core.Bool.{Bool, not, _&&_, _||_}
 use mathlib.Core.List.{List, [], _∷_}
@@ -29,7 +29,7 @@ ownWeight class step = if eqb class retail then 75 else tableWeight class step
 
 -- THE SOVEREIGN FLOOR. "an unrated bank or corporate may not weigh less than its sovereign of incorporation"
 
--- "The header's second field becomes 2, and a book headed 1 reads as before with no floor"
+-- "The header's second field becomes 2, and a book headed 1 reads as before with no floor"; under 3 "Our supervisor keeps the sovereign floor" (02: L9)
 unfoldable pub hasFloor : ℕ → Bool
 hasFloor edition = not (eqb edition 1)
 
@@ -44,7 +44,7 @@ floorForProvider edition class step = hasFloor edition && eqb step 0 && eqb clas
 unfoldable pub atLeastSovereign : Bool → ℕ → ℕ → ℕ
 atLeastSovereign applies own sovereignStep = if applies then max own (tableWeight sovereign sovereignStep) else own
 
--- A PARTY'S WEIGHT, by the edition of the tables, its class, its step and its sovereign's step
+-- A PARTY'S WEIGHT in the tables of 2019, by the edition, its class, its step and its sovereign's step
 
 unfoldable pub counterpartyWeight : ℕ → ℕ → ℕ → ℕ → ℕ
 counterpartyWeight edition class step sovereignStep = atLeastSovereign (floorForCounterparty edition class step) (ownWeight class step) sovereignStep

@@ -39,7 +39,7 @@ const OTHER_LISTED: u64 = 250_000;
 
 const LENT_NOT_ELIGIBLE: u64 = 250_000;
 
-fn row(step: u64) -> usize
+pub fn row(step: u64) -> usize
     ensures { λ r. ⌜ (r ≡ rowOf step) × (r < 3) ⌝ }
 {
     if step == 1 {
@@ -63,7 +63,7 @@ fn band(life: u64) -> usize
     2
 }
 
-fn column(goods: u64) -> usize
+pub fn column(goods: u64) -> usize
     ensures { λ r. ⌜ (r ≡ issuerColumn goods) × (r < 3) ⌝ }
 {
     if goods == SOVEREIGN_DEBT {

@@ -8,7 +8,7 @@ use crate::classes::CORPORATE;
 use crate::classes::RETAIL;
 use crate::classes::SOVEREIGN;
 
-const RETAIL_WEIGHT: u64 = 75;
+pub const RETAIL_WEIGHT: u64 = 75;
 
 // By class (sovereign; bank; corporate and other entity) and step, the unrated step 0 first.
 const WEIGHTS: [[u64; 7]; 3] = [
@@ -43,21 +43,21 @@ fn has_floor(edition: u64) -> bool
 }
 
 // Whether the floor is for a counterparty: an unrated bank or corporate.
-fn floor_for_counterparty(edition: u64, class: u64, step: u64) -> bool
+pub fn floor_for_counterparty(edition: u64, class: u64, step: u64) -> bool
     ensures { λ r. ⌜ r ≡ floorForCounterparty edition class step ⌝ }
 {
     has_floor(edition) & (step == 0) & ((class == BANK) | (class == CORPORATE))
 }
 
 // Whether it is for a provider: an unrated bank.
-fn floor_for_provider(edition: u64, class: u64, step: u64) -> bool
+pub fn floor_for_provider(edition: u64, class: u64, step: u64) -> bool
     ensures { λ r. ⌜ r ≡ floorForProvider edition class step ⌝ }
 {
     has_floor(edition) & (step == 0) & (class == BANK)
 }
 
 // The larger of a party's own weight and its sovereign's.
-fn at_least_sovereign(own: u64, sovereign_step: u64) -> u64
+pub fn at_least_sovereign(own: u64, sovereign_step: u64) -> u64
     requires { ⌜ «sovereign_step» ≤ 6 ⌝ }
     ensures { λ r. ⌜ r ≡ max own (tableWeight sovereign «sovereign_step») ⌝ }
 {

@@ -8,6 +8,7 @@ use Rattle.base.specs.Choice.{if_then_else_}
 use Rattle.base.specs.FirstMet.{firstMet, firstOr}
 use Rattle.base.proofs.FirstMet.{met-first, not-met}
 use Rattle.base.proofs.Tests.{tests, told-not, told-true, told-false}
+use Rattle.tables.proofs.Versions.{eligible-same}
 use Rattle.deal.specs.Editions.{tableFor}
 use Rattle.deal.specs.declared.terms.Terms.{Terms}
 use Rattle.deal.specs.declared.collateral.Collateral.{Collateral}
@@ -64,11 +65,11 @@ past-3 c = past-2 (c .before .before) ∙ not-met _ _ _ (ne-eqb _ 0 (c .if3 .lef
 
 returns-4 : tie.Need-returns-4
 unfolding tableFor collateralGround collateralGrounds outcomeFor groundWith if_then_else_
-returns-4 c = decided _ _ (past-3 (c .before .before) ∙ met-first _ _ _ (told-not (c .before .eligible .ensures) (c .if4 .taken)))
+returns-4 c = decided _ _ (past-3 (c .before .before) ∙ met-first _ _ _ (told-not (c .before .eligible .ensures ∙ sym (eligible-same _ _ _ _)) (c .if4 .taken)))
 
 past-4 : (c : tie.Else4) → let a = c .before .before .before .before .before .before .before .before .before .args in Past (a .terms) (a .item) 4
 unfolding tableFor collateralGrounds
-past-4 c = past-3 (c .before .before) ∙ not-met _ _ _ (told-not (c .before .eligible .ensures) (c .if4 .left))
+past-4 c = past-3 (c .before .before) ∙ not-met _ _ _ (told-not (c .before .eligible .ensures ∙ sym (eligible-same _ _ _ _)) (c .if4 .left))
 
 returns-5 : tie.Need-returns-5
 unfolding collateralGround collateralGrounds outcomeFor groundWith if_then_else_

@@ -9,16 +9,16 @@ use Rattle.relief.proofs.guarantee.guarantee_outcome.Tie as tie
 plain : (c : tie.Start) → PlainGuarantee (c .args .item)
 plain c = plain-guarantee (c .args .item) (c .pre .0 .0)
 
-provider-weight-requires : tie.Need-provider-weight-requires
-provider-weight-requires c κs = let p = plain (c .before) in (p .class .0, (p .class .1, (p .step, p .«sovereign_step»)))
+provider-weight-under-requires : tie.Need-provider-weight-under-requires
+provider-weight-under-requires c κs = let p = plain (c .before) in (p .class .0, (p .class .1, (p .step, p .«sovereign_step»)))
 
 scaled-currency-haircut-requires : tie.Need-scaled-currency-haircut-requires
 scaled-currency-haircut-requires c κs = c .before .before .pre .1 .1
 
 -- the weight under the deal's tables
-weighs : (c : tie.After-provider-weight) → c .provider-weight .result ≡ providerWeightOf (tableFor (c .before .before .args .terms)) (c .before .before .args .item)
+weighs : (c : tie.After-provider-weight-under) → c .provider-weight-under .result ≡ providerWeightOf (tableFor (c .before .before .args .terms)) (c .before .before .args .item)
 unfolding tableFor
-weighs c = c .provider-weight .ensures
+weighs c = c .provider-weight-under .ensures
 
 outcome-after-haircut-requires : tie.Need-outcome-after-haircut-requires
 outcome-after-haircut-requires c κs =
@@ -39,7 +39,7 @@ pub guarantee-outcome-spec : {M : Type 1} → statement M
 guarantee-outcome-spec =
     tie.close
     (tie.spec
-    provider-weight-requires
+    provider-weight-under-requires
     scaled-currency-haircut-requires
     outcome-after-haircut-requires
     value-requires

@@ -4,12 +4,12 @@ use Rattle.deal.proofs.Plain.{plain-terms}
 use Rattle.relief.proofs.weight.weight_of.Statement.{statement}
 use Rattle.relief.proofs.weight.weight_of.Tie as tie
 
-counterparty-weight-requires : tie.Need-counterparty-weight-requires
-counterparty-weight-requires c κs = let p = plain-terms _ (c .before .pre) in (p .class .0, (p .class .1, (p .step, p .«sovereign_step»)))
+counterparty-weight-under-requires : tie.Need-counterparty-weight-under-requires
+counterparty-weight-under-requires c κs = let p = plain-terms _ (c .before .pre) in (p .class .0, (p .class .1, (p .step, p .«sovereign_step»)))
 
 returns : tie.Need-returns
 unfolding tableFor
-returns c = c .counterparty-weight .ensures
+returns c = c .counterparty-weight-under .ensures
 
 pub weight-of-spec : {M : Type 1} → statement M
-weight-of-spec = tie.close (tie.spec counterparty-weight-requires returns)
+weight-of-spec = tie.close (tie.spec counterparty-weight-under-requires returns)
