@@ -1,5 +1,5 @@
 //! Opening a deal, adding to it, and the test of a whole record
-//! (01: The four operations; 02: L5, L11).
+//! (01: The four operations; 02: L5, L9, L11).
 
 use crate::record::{
     place, Collateral, Guarantee, Record, Terms, AMOUNT_LIMIT, DAYS_LIMIT, LIST_LIMIT,

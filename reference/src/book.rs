@@ -1,4 +1,4 @@
-//! Reading a book (01: The book; 02: L5): its lines, the fields of a line, and
+//! Reading a book (01: The book; 02: L5, L9): its lines, the fields of a line, and
 //! the deals that the lines make up.
 
 use std::iter::Peekable;
@@ -236,6 +236,9 @@ mod tests {
             (2, "D", 12),
             (2, "C", 12),
             (2, "G", 11),
+            (3, "D", 12),
+            (3, "C", 12),
+            (3, "G", 11),
         ] {
             for fields in 1..=15 {
                 let reads = read(&line_of(letter, fields), edition).is_some();
@@ -266,10 +269,12 @@ mod tests {
         assert_eq!(read_deal(deal, 1), Some([4, 0, 978, 1]));
         let deal = b"D\t1\t3\t4\t5\t978\t3\t1\t90\t1\t0\t0\n";
         assert_eq!(read_deal(deal, 2), Some([4, 5, 978, 2]));
+        assert_eq!(read_deal(deal, 3), Some([4, 5, 978, 3]));
         let guarantee = b"G\t1\t2\t4\t978\t90\t90\t1\t1\t1\n";
         assert_eq!(read_guarantee(guarantee, 1), Some([4, 0, 978]));
         let guarantee = b"G\t1\t2\t4\t5\t978\t90\t90\t1\t1\t1\n";
         assert_eq!(read_guarantee(guarantee, 2), Some([4, 5, 978]));
+        assert_eq!(read_guarantee(guarantee, 3), Some([4, 5, 978]));
     }
 
     #[test]

@@ -1,7 +1,7 @@
 //! A second implementation of the relief calculator of document 01, with
-//! requests L5 and L11 of document 02, written from the papers alone: exposure
-//! after collateral (E*), grounds for protection left out, and the risk-weighted
-//! amount, for a book of deals or for one deal.
+//! requests L5, L9 and L11 of document 02, written from the papers alone:
+//! exposure after collateral (E*), grounds for protection left out, and the
+//! risk-weighted amount, for a book of deals or for one deal.
 //!
 //! No function panics or overflows, whatever the input: the numbers of a record
 //! are tested before any arithmetic is done on them, and the arithmetic on
@@ -21,6 +21,8 @@ mod reporting;
 mod scaling;
 mod share;
 mod tables;
+mod tables_2019;
+mod tables_2023;
 mod weights;
 
 pub mod ground;

@@ -7,19 +7,20 @@ use crate::record::{Collateral, Guarantee, Terms};
 use crate::scaling::{deal_days, guarantee_days, scaled};
 use crate::share::Share;
 use crate::weights::{counterparty_weight, provider_weight};
-use crate::{ground, tables};
+use crate::{edition, ground, tables};
 
 /// Value of an item of collateral of an accepted deal.
 pub fn collateral_value(terms: &Terms, item: &Collateral) -> Result<u64, u8> {
     ensure(item.lawful == 1, ground::NOT_LAWFUL)?;
     ensure(item.unrelated == 1, ground::RELATED)?;
     ensure(item.unreflected == 1, ground::IN_RATING)?;
-    let haircut = tables::collateral_haircut(item.goods, item.step, item.life, item.listed == 1)
+    let haircut = edition::tables(terms.edition)
+        .collateral_haircut(item.goods, item.step, item.life, item.listed == 1)
         .ok_or(ground::NOT_ELIGIBLE)?;
     let surviving = maturity_share(item.residual, item.original, terms.residual)?;
 
     let days = deal_days(terms.kind, terms.interval);
-    let haircuts = scaled(haircut, days) + currency_haircut(item.currency, terms.currency, days);
+    let haircuts = scaled(haircut, days) + currency_haircut(terms, item.currency, days);
     Ok(surviving.of(Share::left_by(haircuts).of(item.amount)))
 }
 
@@ -37,16 +38,16 @@ pub fn guarantee_value(terms: &Terms, item: &Guarantee) -> Result<u64, u8> {
     )?;
 
     let days = guarantee_days(terms.interval);
-    let haircut = currency_haircut(item.currency, terms.currency, days);
+    let haircut = currency_haircut(terms, item.currency, days);
     Ok(surviving.of(Share::left_by(haircut).of(item.amount)))
 }
 
 /// Scaled by itself, before it is added to another haircut.
-fn currency_haircut(cover: u64, deal: u64, days: u64) -> u64 {
-    if cover == deal {
+fn currency_haircut(terms: &Terms, cover: u64, days: u64) -> u64 {
+    if cover == terms.currency {
         0
     } else {
-        scaled(tables::CURRENCY_HAIRCUT, days)
+        scaled(edition::tables(terms.edition).currency, days)
     }
 }
 

@@ -28,8 +28,9 @@ pub struct Terms {
     pub lent_goods: u64,
     pub lent_step: u64,
     pub lent_life: u64,
-    /// What the header of the deal's book says: 1 without, 2 with the floor of
-    /// the sovereign's weight (02: L5).
+    /// What the header of the deal's book says: 1 the tables of 2019, 2 the same
+    /// with the floor of the sovereign's weight, 3 those of 2023 with that floor
+    /// (02: L5, L9).
     pub edition: u64,
 }
 
@@ -116,7 +117,7 @@ pub(crate) fn place(count: u64) -> usize {
 }
 
 impl From<[u64; 12]> for Terms {
-    /// The fields in the order of a D line of edition 2, then the edition.
+    /// The fields of a D line of edition 2 or 3 in its order, then the edition.
     fn from(fields: [u64; 12]) -> Self {
         let [amount, class, step, sovereign_step, currency, kind, interval, residual, lent_goods, lent_step, lent_life, edition] =
             fields;
@@ -159,7 +160,7 @@ impl From<[u64; 11]> for Collateral {
 }
 
 impl From<[u64; 10]> for Guarantee {
-    /// The fields in the order of a G line of edition 2.
+    /// The fields of a G line of edition 2 or 3 in its order.
     fn from(fields: [u64; 10]) -> Self {
         let [amount, class, step, sovereign_step, currency, residual, original, lawful, direct, unreflected] =
             fields;

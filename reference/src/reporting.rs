@@ -6,7 +6,7 @@ use crate::record::{Record, Terms, LIST_LIMIT};
 use crate::scaling::{deal_days, scaled};
 use crate::share::raised;
 use crate::weights::{counterparty_weight, provider_weight};
-use crate::{refusal, tables};
+use crate::{edition, refusal};
 
 /// What an item counts for: its value, or the ground for leaving it out.
 #[derive(Clone, Copy, Debug, PartialEq, Eq)]
@@ -93,7 +93,8 @@ fn value_collateral(record: &Record, report: &mut Report) -> u64 {
 /// E*: the raised exposure less all collateral, not below 0 and never above the
 /// deal's amount (CRE22.4 decides over CRE22.40).
 fn exposure_after(terms: &Terms, collateral_total: u64) -> u64 {
-    let haircut = tables::lent_haircut(terms.lent_goods, terms.lent_step, terms.lent_life);
+    let tables = edition::tables(terms.edition);
+    let haircut = tables.lent_haircut(terms.lent_goods, terms.lent_step, terms.lent_life);
     let days = deal_days(terms.kind, terms.interval);
     raised(terms.amount, scaled(haircut, days))
         .saturating_sub(collateral_total)

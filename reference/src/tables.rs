@@ -1,5 +1,6 @@
-//! Risk weights and standard supervisory haircuts
-//! (01: Risk weights in percent, Haircuts in millionths).
+//! Risk weights and standard supervisory haircuts: what the tables of an edition
+//! hold and how they are looked up (01: Risk weights in percent, Haircuts in
+//! millionths). The figures stand in a file for each version of the framework.
 
 /// Classes of counterparties and guarantors; class 3 is a corporate among the
 /// former, an other entity among the latter.
@@ -19,10 +20,42 @@ const MAIN_INDEX_EQUITY: u64 = 7;
 const OTHER_EQUITY: u64 = 8;
 const GOLD: u64 = 9;
 
-/// Haircut where exposure and cover are in different currencies (CRE22.46).
-pub const CURRENCY_HAIRCUT: u32 = 80_000;
-/// Haircut on lent goods that are not eligible as collateral (CRE22.47).
-const NOT_ELIGIBLE_LENT_HAIRCUT: u32 = 250_000;
+/// Rating steps run from 0, unrated, to this one.
+const WORST_STEP: usize = 6;
+
+/// Risk weights in percent by step, the unrated party's first.
+pub type WeightsByStep = [u64; WORST_STEP + 1];
+
+/// A band of issue life: its last day, and the haircuts at step 1 and at steps 2
+/// and 3.
+pub type Band = (u64, [u32; 2]);
+
+/// Last day of the band without an end.
+pub const NO_END: u64 = u64::MAX;
+
+/// The tables of a version of the framework: weights in percent, haircuts in
+/// millionths at a holding period of ten business days.
+pub struct Tables {
+    pub sovereign_weights: WeightsByStep,
+    pub bank_weights: WeightsByStep,
+    /// Of corporates and of other entities.
+    pub corporate_weights: WeightsByStep,
+    pub retail_weight: u64,
+    /// Bands rise and the last one has no end, here and in the next two.
+    pub sovereign_debt: &'static [Band],
+    /// Debt of other issuers, banks among them.
+    pub other_debt: &'static [Band],
+    pub securitisation: &'static [Band],
+    /// Sovereign debt at step 4, of any life.
+    pub sovereign_debt_at_step_4: u32,
+    pub main_index_equity: u32,
+    pub other_equity: u32,
+    pub gold: u32,
+    /// Lent goods that are not eligible as collateral (CRE22.47).
+    pub not_eligible_lent: u32,
+    /// Exposure and cover in different currencies (CRE22.46).
+    pub currency: u32,
+}
 
 /// Whether goods of the type have a rating step and an issue life.
 pub fn is_debt(goods: u64) -> bool {
@@ -35,106 +68,75 @@ pub fn has_sovereign(class: u64) -> bool {
     !matches!(class, SOVEREIGN | RETAIL)
 }
 
-/// Risk weight in percent of an accepted class and step by themselves, where
-/// step 0 is unrated (CRE20.4, CRE20.14 option 2, CRE20.17).
-pub fn risk_weight(class: u64, step: u64) -> u64 {
-    match class {
-        SOVEREIGN => match step {
-            1 => 0,
-            2 => 20,
-            3 => 50,
-            0 | 4 | 5 => 100,
-            _ => 150,
-        },
-        BANK => match step {
-            1 => 20,
-            0 | 2 | 3 => 50,
-            4 | 5 => 100,
-            _ => 150,
-        },
-        RETAIL => 75,
-        _ => match step {
-            1 => 20,
-            2 => 50,
-            0 | 3 | 4 => 100,
-            _ => 150,
-        },
+impl Tables {
+    /// Risk weight in percent of an accepted class and step by themselves, where
+    /// step 0 is unrated.
+    pub fn risk_weight(&self, class: u64, step: u64) -> u64 {
+        let by_step = match class {
+            SOVEREIGN => &self.sovereign_weights,
+            BANK => &self.bank_weights,
+            RETAIL => return self.retail_weight,
+            _ => &self.corporate_weights,
+        };
+        by_step[step.min(WORST_STEP as u64) as usize]
+    }
+
+    /// Haircut of collateral; none where it is not eligible by type and step.
+    /// Listed senior bank paper without a rating uses the row of steps 2 and 3
+    /// (CRE22.37(4), CRE22.44).
+    pub fn collateral_haircut(
+        &self,
+        goods: u64,
+        step: u64,
+        life: u64,
+        listed: bool,
+    ) -> Option<u32> {
+        let row = match (goods, step) {
+            (BANK_DEBT, 0) if listed => 2,
+            _ => step,
+        };
+        self.rated_haircut(goods, row, life)
+    }
+
+    /// Haircut of the goods lent, which have no entry for listed senior paper.
+    pub fn lent_haircut(&self, goods: u64, step: u64, life: u64) -> u32 {
+        self.rated_haircut(goods, step, life)
+            .unwrap_or(self.not_eligible_lent)
+    }
+
+    fn rated_haircut(&self, goods: u64, step: u64, life: u64) -> Option<u32> {
+        match goods {
+            CASH => Some(0),
+            SOVEREIGN_DEBT if step == 4 => Some(self.sovereign_debt_at_step_4),
+            SOVEREIGN_DEBT => debt_haircut(self.sovereign_debt, step, life),
+            OTHER_DEBT | BANK_DEBT => debt_haircut(self.other_debt, step, life),
+            SECURITISATION => debt_haircut(self.securitisation, step, life),
+            MAIN_INDEX_EQUITY => Some(self.main_index_equity),
+            OTHER_EQUITY => Some(self.other_equity),
+            GOLD => Some(self.gold),
+            _ => None,
+        }
     }
 }
 
-/// Haircut of collateral; none where it is not eligible by type and step.
-/// Listed senior bank paper without a rating uses the row of steps 2 and 3
-/// (CRE22.37(4), CRE22.44).
-pub fn collateral_haircut(goods: u64, step: u64, life: u64, listed: bool) -> Option<u32> {
-    let row = match (goods, step) {
-        (BANK_DEBT, 0) if listed => 2,
-        _ => step,
-    };
-    rated_haircut(goods, row, life)
-}
-
-/// Haircut of the goods lent, which have no entry for listed senior paper.
-pub fn lent_haircut(goods: u64, step: u64, life: u64) -> u32 {
-    rated_haircut(goods, step, life).unwrap_or(NOT_ELIGIBLE_LENT_HAIRCUT)
-}
-
-fn rated_haircut(goods: u64, step: u64, life: u64) -> Option<u32> {
-    let debt = || debt_haircuts(step, life);
-    match goods {
-        CASH => Some(0),
-        SOVEREIGN_DEBT if step == 4 => Some(150_000),
-        SOVEREIGN_DEBT => debt().map(|row| row.sovereign),
-        OTHER_DEBT | BANK_DEBT => debt().map(|row| row.other),
-        SECURITISATION => debt().map(|row| row.securitisation),
-        MAIN_INDEX_EQUITY | GOLD => Some(150_000),
-        OTHER_EQUITY => Some(250_000),
-        _ => None,
-    }
-}
-
-/// A row of the table of CRE22.44 within a band of issue life.
-struct DebtHaircuts {
-    sovereign: u32,
-    other: u32,
-    securitisation: u32,
-}
-
-fn debt_haircuts(step: u64, life: u64) -> Option<DebtHaircuts> {
-    let (sovereign, other, securitisation) = match (step, life) {
-        (1, ..=360) => (5_000, 10_000, 20_000),
-        (1, 361..=1_800) => (20_000, 40_000, 80_000),
-        (1, 1_801..) => (40_000, 80_000, 160_000),
-        (2 | 3, ..=360) => (10_000, 20_000, 40_000),
-        (2 | 3, 361..=1_800) => (30_000, 60_000, 120_000),
-        (2 | 3, 1_801..) => (60_000, 120_000, 240_000),
+/// Haircut of the first band that the life does not outlast; none at steps
+/// without a row.
+fn debt_haircut(bands: &[Band], step: u64, life: u64) -> Option<u32> {
+    let row = match step {
+        1 => 0,
+        2 | 3 => 1,
         _ => return None,
     };
-    Some(DebtHaircuts {
-        sovereign,
-        other,
-        securitisation,
-    })
+    let within = bands.iter().find(|(last, _)| life <= *last);
+    within.map(|(_, haircuts)| haircuts[row])
 }
 
 #[cfg(test)]
 mod tests {
     use super::*;
+    use crate::{tables_2019, tables_2023};
 
-    #[test]
-    fn risk_weights_are_those_of_the_paper() {
-        // Columns 1 to 6 and unrated, as the paper prints them.
-        let printed = [
-            (SOVEREIGN, [0, 20, 50, 100, 100, 150, 100]),
-            (BANK, [20, 50, 50, 100, 100, 150, 50]),
-            (OTHER_ENTITY, [20, 50, 100, 100, 150, 150, 100]),
-        ];
-        for (class, row) in printed {
-            for (step, weight) in [1, 2, 3, 4, 5, 6, 0].into_iter().zip(row) {
-                assert_eq!(risk_weight(class, step), weight, "{class} {step}");
-            }
-        }
-        assert_eq!(risk_weight(RETAIL, 0), 75);
-    }
+    const VERSIONS: [Tables; 2] = [tables_2019::TABLES, tables_2023::TABLES];
 
     #[test]
     fn banks_and_class_3_have_a_sovereign() {
@@ -142,90 +144,79 @@ mod tests {
     }
 
     #[test]
-    fn haircuts_of_debt_are_those_of_the_paper() {
-        let printed = [
-            (1, 1, [5_000, 10_000, 20_000]),
-            (1, 360, [5_000, 10_000, 20_000]),
-            (1, 361, [20_000, 40_000, 80_000]),
-            (1, 1_800, [20_000, 40_000, 80_000]),
-            (1, 1_801, [40_000, 80_000, 160_000]),
-            (1, 36_000, [40_000, 80_000, 160_000]),
-            (1, 100_000, [40_000, 80_000, 160_000]),
-            (2, 1, [10_000, 20_000, 40_000]),
-            (3, 360, [10_000, 20_000, 40_000]),
-            (2, 361, [30_000, 60_000, 120_000]),
-            (3, 1_800, [30_000, 60_000, 120_000]),
-            (2, 1_801, [60_000, 120_000, 240_000]),
-            (3, 36_000, [60_000, 120_000, 240_000]),
-            (3, 100_000, [60_000, 120_000, 240_000]),
-        ];
-        for (step, life, [sovereign, other, securitisation]) in printed {
-            let haircut = |goods| collateral_haircut(goods, step, life, false);
-            assert_eq!(haircut(SOVEREIGN_DEBT), Some(sovereign));
-            assert_eq!(haircut(OTHER_DEBT), Some(other));
-            assert_eq!(haircut(BANK_DEBT), Some(other));
-            assert_eq!(haircut(SECURITISATION), Some(securitisation));
+    fn bands_rise_and_the_last_has_no_end() {
+        for tables in VERSIONS {
+            for bands in [
+                tables.sovereign_debt,
+                tables.other_debt,
+                tables.securitisation,
+            ] {
+                assert!(bands.windows(2).all(|pair| pair[0].0 < pair[1].0));
+                assert_eq!(bands.last().map(|(last, _)| *last), Some(NO_END));
+            }
         }
     }
 
     #[test]
-    fn eligibility_is_that_of_ground_24() {
-        for step in 0..=6 {
-            for listed in [false, true] {
-                let eligible = |goods| collateral_haircut(goods, step, 500, listed).is_some();
+    fn neither_a_longer_life_nor_a_worse_step_lowers_a_haircut() {
+        for tables in VERSIONS {
+            for bands in [
+                tables.sovereign_debt,
+                tables.other_debt,
+                tables.securitisation,
+            ] {
+                assert!(bands.iter().all(|(_, [first, second])| first <= second));
+                for pair in bands.windows(2) {
+                    assert!((0..2).all(|row| pair[0].1[row] <= pair[1].1[row]));
+                }
+            }
+        }
+    }
+
+    #[test]
+    fn a_worse_step_of_a_rated_party_never_weighs_less() {
+        for tables in VERSIONS {
+            for class in [SOVEREIGN, BANK, CORPORATE] {
+                let weights = [1, 2, 3, 4, 5, 6].map(|step| tables.risk_weight(class, step));
+                assert!(weights.is_sorted(), "{class} {weights:?}");
+            }
+        }
+    }
+
+    #[test]
+    fn eligibility_is_that_of_ground_24_in_every_version() {
+        for tables in VERSIONS {
+            for (step, listed) in (0..=6).flat_map(|step| [(step, false), (step, true)]) {
+                let haircut = |goods| tables.collateral_haircut(goods, step, 500, listed);
+                let eligible = |goods| haircut(goods).is_some();
                 assert_eq!(eligible(SOVEREIGN_DEBT), !matches!(step, 0 | 5 | 6));
                 assert_eq!(eligible(OTHER_DEBT), !(step == 0 || step > 3));
                 assert_eq!(eligible(SECURITISATION), !(step == 0 || step > 3));
                 assert_eq!(eligible(BANK_DEBT), !(step > 3 || step == 0 && !listed));
                 assert!(!eligible(6));
             }
-        }
-        for goods in [CASH, MAIN_INDEX_EQUITY, OTHER_EQUITY, GOLD] {
-            assert!(collateral_haircut(goods, 0, 0, false).is_some());
+            for goods in [CASH, MAIN_INDEX_EQUITY, OTHER_EQUITY, GOLD] {
+                assert!(tables.collateral_haircut(goods, 0, 0, false).is_some());
+            }
         }
     }
 
     #[test]
-    fn other_haircuts_are_those_of_the_paper() {
-        assert_eq!(collateral_haircut(CASH, 0, 0, false), Some(0));
-        assert_eq!(
-            collateral_haircut(SOVEREIGN_DEBT, 4, 1, false),
-            Some(150_000)
-        );
-        assert_eq!(
-            collateral_haircut(SOVEREIGN_DEBT, 4, 100_000, false),
-            Some(150_000)
-        );
-        assert_eq!(
-            collateral_haircut(MAIN_INDEX_EQUITY, 0, 0, false),
-            Some(150_000)
-        );
-        assert_eq!(collateral_haircut(GOLD, 0, 0, false), Some(150_000));
-        assert_eq!(collateral_haircut(OTHER_EQUITY, 0, 0, false), Some(250_000));
-        assert_eq!(collateral_haircut(BANK_DEBT, 0, 360, true), Some(20_000));
-        assert_eq!(collateral_haircut(BANK_DEBT, 0, 361, true), Some(60_000));
-        assert_eq!(collateral_haircut(BANK_DEBT, 0, 1_801, true), Some(120_000));
-        assert_eq!(
-            collateral_haircut(BANK_DEBT, 0, 100_000, true),
-            Some(120_000)
-        );
-    }
-
-    #[test]
-    fn lent_goods_that_are_not_eligible_have_the_haircut_of_other_equity() {
-        for (goods, step) in [
-            (SOVEREIGN_DEBT, 0),
-            (SOVEREIGN_DEBT, 5),
-            (OTHER_DEBT, 4),
-            (BANK_DEBT, 0),
-            (BANK_DEBT, 6),
-            (SECURITISATION, 0),
-            (6, 1),
-        ] {
-            assert_eq!(lent_haircut(goods, step, 100), 250_000);
+    fn the_haircut_of_goods_not_eligible_is_for_lent_ones_alone() {
+        for tables in VERSIONS {
+            for (goods, step) in [
+                (SOVEREIGN_DEBT, 0),
+                (SOVEREIGN_DEBT, 5),
+                (OTHER_DEBT, 4),
+                (BANK_DEBT, 0),
+                (BANK_DEBT, 6),
+                (SECURITISATION, 0),
+                (6, 1),
+            ] {
+                let lent = tables.lent_haircut(goods, step, 100);
+                assert_eq!(lent, tables.not_eligible_lent);
+                assert_eq!(tables.collateral_haircut(goods, step, 100, false), None);
+            }
         }
-        assert_eq!(lent_haircut(CASH, 0, 0), 0);
-        assert_eq!(lent_haircut(SOVEREIGN_DEBT, 4, 100), 150_000);
-        assert_eq!(lent_haircut(BANK_DEBT, 3, 100), 20_000);
     }
 }

@@ -57,39 +57,50 @@ fn g() -> String {
     guarantee_line(&GUARANTEE, 1)
 }
 
+/// Books whose first line is wrong.
+const WRONG_HEADERS: [&[u8]; 37] = [
+    b"",
+    b"\n",
+    b"C",
+    b"CRM\t1",
+    b"CRM\t1\r\n",
+    b"CRM 1\n",
+    b"CRM\t\n",
+    b"CRM\t0\n",
+    b"CRM\t4\n",
+    b"CRM\t9\n",
+    b"CRM\t11\n",
+    b"CRM\t12\n",
+    b"CRM\t21\n",
+    b"CRM\t01\n",
+    b"CRM\t02\n",
+    b"CRM\t+2\n",
+    b"CRM\t1\t\n",
+    b"CRM\t2\t\n",
+    b"CRM\t2\t1\n",
+    b"CRM\t2",
+    b"CRM\t2\r\n",
+    b"CRM\t3",
+    b"CRM\t3\r\n",
+    b"CRM\t3\t\n",
+    b"CRM\t3\t3\n",
+    b"CRM\t03\n",
+    b"CRM\t33\n",
+    b"CRM\t13\n",
+    b"CRM 3\n",
+    b"CRM 2\n",
+    b"crm\t2\n",
+    b"CRM\tCRM\t2\n",
+    b"crm\t1\n",
+    b" CRM\t1\n",
+    b"\nCRM\t1\n",
+    b"RESULT\t1\n",
+    b"\xef\xbb\xbfCRM\t1\n",
+];
+
 #[test]
 fn refusal_9_wrong_first_line() {
-    for book in [
-        &b""[..],
-        b"\n",
-        b"C",
-        b"CRM\t1",
-        b"CRM\t1\r\n",
-        b"CRM 1\n",
-        b"CRM\t\n",
-        b"CRM\t0\n",
-        b"CRM\t3\n",
-        b"CRM\t9\n",
-        b"CRM\t11\n",
-        b"CRM\t12\n",
-        b"CRM\t21\n",
-        b"CRM\t01\n",
-        b"CRM\t02\n",
-        b"CRM\t+2\n",
-        b"CRM\t1\t\n",
-        b"CRM\t2\t\n",
-        b"CRM\t2\t1\n",
-        b"CRM\t2",
-        b"CRM\t2\r\n",
-        b"CRM 2\n",
-        b"crm\t2\n",
-        b"CRM\tCRM\t2\n",
-        b"crm\t1\n",
-        b" CRM\t1\n",
-        b"\nCRM\t1\n",
-        b"RESULT\t1\n",
-        b"\xef\xbb\xbfCRM\t1\n",
-    ] {
+    for book in WRONG_HEADERS {
         assert_eq!(refusal(book), 9, "{book:?}");
     }
 }
@@ -222,6 +233,7 @@ fn thirteen_digits_reach_the_operation_uncut() {
     let refusals = [
         (1, &[2, 3, 4, 2, 5, 5, 2, 3, 5][..]),
         (2, &[2, 3, 3, 4, 2, 5, 5, 2, 3, 5]),
+        (3, &[2, 3, 3, 4, 2, 5, 5, 2, 3, 5]),
     ];
     for (edition, refusals) in refusals {
         let sound = sent_terms(&Terms { edition, ..TERMS });
@@ -240,8 +252,8 @@ fn thirteen_digits_reach_the_operation_uncut() {
 #[test]
 fn odd_lines_belong_to_the_deal_above() {
     for odd in [
-        "\n", "D\n", "d\t1\n", "CRM\t1\n", "CRM\t2\n", "\t\n", "#\n", " D\t1\n", "\r\n", "C\n",
-        "G\n", "C\t\n", "DD\t1\n",
+        "\n", "D\n", "d\t1\n", "CRM\t1\n", "CRM\t2\n", "CRM\t3\n", "\t\n", "#\n", " D\t1\n",
+        "\r\n", "C\n", "G\n", "C\t\n", "DD\t1\n",
     ] {
         let lines = [d(), odd.into(), d()].concat();
         let found = answers(&lines);

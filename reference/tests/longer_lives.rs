@@ -288,18 +288,24 @@ fn a_mismatch_with_a_long_deal_is_one_with_five_years() {
     }
 }
 
-/// The deal with `term` for every term of five years or more, and with `life`
-/// for every life in the last band.
+/// The deal with `term` for every term of five years or more, and with a life of
+/// at least `life` for every life in the last band, which begins above ten years
+/// in the tables of 2023.
 fn with_other_long_days(record: &Record, term: u64, life: u64) -> Record {
     let mut changed = record.clone();
+    let band_before = if record.terms.edition == 3 {
+        3_600
+    } else {
+        1_800
+    };
     let lengthen = |days: &mut u64| {
         if *days >= 1_800 {
             *days = term;
         }
     };
     let outlive = |days: &mut u64| {
-        if *days > 1_800 {
-            *days = life;
+        if *days > band_before {
+            *days = life.max(band_before + 1);
         }
     };
     lengthen(&mut changed.terms.residual);
@@ -352,7 +358,7 @@ fn goods_fit(goods: u64, step: u64, life: u64, longest: u64) -> (bool, bool) {
 /// Opening by the papers, with the limit of days left open.
 fn opening_by_paper(t: &Terms, longest: u64) -> u64 {
     let (step_fits, life_fits) = goods_fit(t.lent_goods, t.lent_step, t.lent_life, longest);
-    let codes = [(t.edition, 2), (t.class, 4), (t.kind, 3), (t.lent_goods, 9)];
+    let codes = [(t.edition, 3), (t.class, 4), (t.kind, 3), (t.lent_goods, 9)];
     let days = [(t.interval, 250), (t.residual, longest)];
     let within = |&(number, last): &(u64, u64)| (1..=last).contains(&number);
     let last_step = if t.class == 4 { 0 } else { 6 };

@@ -100,7 +100,8 @@ fn edges_of_edition_and_sovereign_step() {
         (11, 0, 2),
         (11, 1, 0),
         (11, 2, 0),
-        (11, 3, 2),
+        (11, 3, 0),
+        (11, 4, 2),
         (11, u64::MAX, 2),
     ];
     assert_opening(&TERMS, edges);

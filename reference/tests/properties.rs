@@ -17,24 +17,13 @@ fn value(outcome: Outcome) -> u64 {
     }
 }
 
-/// The paper's risk weights by step. The paper prints the unrated column last;
-/// here it is the first, step 0.
-fn weight(class: u64, step: u64) -> u64 {
-    match class {
-        1 => [100, 0, 20, 50, 100, 100, 150][step as usize],
-        2 => [50, 20, 50, 50, 100, 100, 150][step as usize],
-        3 => [100, 20, 50, 100, 100, 150, 150][step as usize],
-        _ => 75,
-    }
-}
-
-/// The weight of a class, step and sovereign's step, where edition 2 has a
-/// floor for the unrated of some classes.
+/// The weight of a class, step and sovereign's step, where editions 2 and 3 have
+/// a floor for the unrated of some classes.
 fn weight_with_floor(party: [u64; 3], floored: &[u64], edition: u64) -> u64 {
     let [class, step, sovereign_step] = party;
-    let own = weight(class, step);
-    if edition == 2 && step == 0 && floored.contains(&class) {
-        own.max(weight(1, sovereign_step))
+    let own = weight(class, step, edition);
+    if WITH_SOVEREIGN.contains(&edition) && step == 0 && floored.contains(&class) {
+        own.max(weight(1, sovereign_step, edition))
     } else {
         own
     }
@@ -194,17 +183,55 @@ const DEBT: [[[u64; 3]; 3]; 2] = [
     ],
 ];
 
-fn table_haircut(goods: u64, step: u64, life: u64) -> u64 {
+/// The column of other issuers in the tables of 2023: rows of steps, bands of
+/// life.
+const OTHER_ISSUERS_2023: [[u64; 5]; 2] = [
+    [10_000, 30_000, 40_000, 60_000, 120_000],
+    [20_000, 40_000, 60_000, 120_000, 200_000],
+];
+
+/// How many of the days the life is above.
+fn bands_below(life: u64, days: &[u64]) -> usize {
+    days.iter().filter(|&&last| life > last).count()
+}
+
+fn table_haircut(goods: u64, step: u64, life: u64, edition: u64) -> u64 {
     let row = usize::from(step != 1);
-    let band = usize::from(life > 360) + usize::from(life > 1_800);
-    match goods {
-        1 => 0,
-        2 if step == 4 => 150_000,
-        2 => DEBT[row][band][0],
-        3 | 4 => DEBT[row][band][1],
-        5 => DEBT[row][band][2],
-        7 | 9 => 150_000,
-        _ => 250_000,
+    let band = bands_below(life, &[360, 1_800]);
+    match (goods, edition) {
+        (1, _) => 0,
+        (2, _) if step == 4 => 150_000,
+        (2, _) => DEBT[row][band][0],
+        (3 | 4, 3) => OTHER_ISSUERS_2023[row][bands_below(life, &[360, 1_080, 1_800, 3_600])],
+        (3 | 4, _) => DEBT[row][band][1],
+        (5, _) => DEBT[row][band][2],
+        (7 | 9, 3) => 200_000,
+        (7 | 9, _) => 150_000,
+        _ => not_eligible(edition),
+    }
+}
+
+/// The haircut of lent goods that are not eligible, and of other equity.
+fn not_eligible(edition: u64) -> u64 {
+    if edition == 3 {
+        300_000
+    } else {
+        250_000
+    }
+}
+
+/// The table haircut of the goods lent.
+fn lent_haircut(terms: &Terms) -> u64 {
+    let (goods, step) = (terms.lent_goods, terms.lent_step);
+    let eligible = match goods {
+        2 => (1..=4).contains(&step),
+        3..=5 => (1..=3).contains(&step),
+        _ => goods != 6,
+    };
+    if eligible {
+        table_haircut(goods, step, terms.lent_life, terms.edition)
+    } else {
+        not_eligible(terms.edition)
     }
 }
 
@@ -243,7 +270,8 @@ fn values_are_those_of_the_steps() {
         let mut total = 0;
         for (item, outcome) in record.collateral.iter().zip(report.collateral) {
             if let (Outcome::Valued(value), 1..) = (outcome, item.goods) {
-                let own = scaled(table_haircut(item.goods, item.step, item.life), n);
+                let table = table_haircut(item.goods, item.step, item.life, terms.edition);
+                let own = scaled(table, n);
                 let foreign = u64::from(item.currency != terms.currency);
                 let haircuts = own + foreign * scaled(80_000, n);
                 let expected =
@@ -252,13 +280,7 @@ fn values_are_those_of_the_steps() {
                 total += value;
             }
         }
-        let eligible = match terms.lent_goods {
-            2 => (1..=4).contains(&terms.lent_step),
-            3..=5 => (1..=3).contains(&terms.lent_step),
-            goods => goods != 6,
-        };
-        let table = table_haircut(terms.lent_goods, terms.lent_step, terms.lent_life);
-        let haircut = scaled(if eligible { table } else { 250_000 }, n);
+        let haircut = scaled(lent_haircut(terms), n);
         let raised = (terms.amount * (1_000_000 + haircut)).div_ceil(1_000_000);
         let exposure = raised.saturating_sub(total).min(terms.amount);
         assert_eq!(report.exposure, exposure);
@@ -413,7 +435,7 @@ fn add_line(record: &mut Record, line: &str) -> u64 {
 /// Goes line by line through opening, adding and reporting.
 fn line_by_line(book: &[u8]) -> Vec<u64> {
     let text = std::str::from_utf8(book).expect("plain text");
-    let edition = if text.starts_with("CRM\t1\n") { 1 } else { 2 };
+    let edition = u64::from(book[4] - b'0');
     let mut found: Vec<Result<Record, (u64, u64)>> = Vec::new();
     for (number, line) in (1..).zip(text.split_inclusive('\n')).skip(1) {
         if line.starts_with("D\t") {

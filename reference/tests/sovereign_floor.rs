@@ -4,36 +4,14 @@ mod common;
 
 use common::*;
 use reference::{
-    add_collateral, add_guarantee, answer_book, deals, open, printed, printed_reports, report,
-    DealRead, Guarantee, Outcome, Record, Terms,
+    add_guarantee, deals, open, printed, printed_reports, report, DealRead, Guarantee, Outcome,
+    Record, Terms,
 };
 use Outcome::{LeftOut, Valued};
 
 const ROUNDS: u64 = 20_000;
 /// No edition of those that a deal may hold; the last ones would be if cut.
-const UNKNOWN_EDITIONS: [u64; 7] = [0, 3, 9, 257, (1 << 16) + 2, (1 << 32) + 1, u64::MAX];
-
-/// A counterparty or provider: class, step and sovereign's step.
-type Party = [u64; 3];
-
-fn terms_of([class, step, sovereign_step]: Party, edition: u64) -> Terms {
-    Terms {
-        class,
-        step,
-        sovereign_step,
-        edition,
-        ..TERMS
-    }
-}
-
-fn guarantee_of([class, step, sovereign_step]: Party) -> Guarantee {
-    Guarantee {
-        class,
-        step,
-        sovereign_step,
-        ..GUARANTEE
-    }
-}
+const UNKNOWN_EDITIONS: [u64; 7] = [0, 4, 9, 257, (1 << 16) + 2, (1 << 32) + 1, u64::MAX];
 
 fn opening(terms: Terms) -> u64 {
     open(terms).err().unwrap_or(0)
@@ -45,25 +23,6 @@ fn untested(terms: Terms, guarantee: Guarantee) -> Record {
     record.terms = terms;
     record.guarantees[0] = guarantee;
     record
-}
-
-/// Refusals of the record by reporting and by both ways of adding.
-fn refusals(record: &Record) -> [u64; 3] {
-    let mut same = record.clone();
-    let added = add_collateral(&mut same, CASH);
-    let guaranteed = add_guarantee(&mut same, GUARANTEE);
-    if added == 40 && guaranteed == 40 {
-        assert_eq!(&same, record);
-    }
-    [report(record).refusal, added, guaranteed]
-}
-
-/// The four numbers of a book of one deal.
-fn four_numbers(book: &str) -> [u64; 4] {
-    let mut results = [0; 4];
-    let reply = answer_book(book.as_bytes(), &mut results);
-    assert_eq!([reply.refusal, reply.deals as u64], [0, 1], "{book:?}");
-    results
 }
 
 const SOVEREIGN_STEPS: [u64; 11] = [0, 1, 2, 3, 4, 5, 6, 7, 8, 256, 9_999_999_999_999];
@@ -79,8 +38,8 @@ fn a_wrong_sovereign_step_of_the_counterparty_is_3() {
                 assert_eq!(opening(terms), refusal, "{terms:?}");
                 let refusals = refusals(&untested(terms, GUARANTEE));
                 assert_eq!(refusals, [if wrong { 40 } else { 0 }; 3], "{terms:?}");
-                if edition == 2 {
-                    let found = four_numbers(&(header(2) + &terms_line(&terms)));
+                if WITH_SOVEREIGN.contains(&edition) {
+                    let found = four_numbers(&(header(edition) + &terms_line(&terms)));
                     assert_eq!(found[1], refusal, "{terms:?}");
                 }
             }
@@ -102,9 +61,9 @@ fn a_wrong_sovereign_step_of_a_provider_is_3() {
                 assert_eq!(record.guarantee_count, u64::from(!wrong));
                 let refusals = refusals(&untested(terms, item));
                 assert_eq!(refusals, [if wrong { 40 } else { 0 }; 3], "{item:?}");
-                if edition == 2 {
-                    let line = guarantee_line(&item, 2);
-                    let found = four_numbers(&(header(2) + &terms_line(&terms) + &line));
+                if WITH_SOVEREIGN.contains(&edition) {
+                    let line = guarantee_line(&item, edition);
+                    let found = four_numbers(&(header(edition) + &terms_line(&terms) + &line));
                     let place = if wrong { 3 } else { 1_000_000 };
                     assert_eq!(found[1..3], [refusal, place], "{item:?}");
                 }
@@ -174,8 +133,8 @@ fn an_unknown_edition_in_a_record_is_40() {
 
 #[test]
 fn a_line_of_the_other_edition_is_11() {
-    let [d1, d2] = EDITIONS.map(|edition| terms_line(&Terms { edition, ..TERMS }));
-    let [g1, g2] = EDITIONS.map(|edition| guarantee_line(&GUARANTEE, edition));
+    let [d1, d2] = [1, 2].map(|edition| terms_line(&Terms { edition, ..TERMS }));
+    let [g1, g2] = [1, 2].map(|edition| guarantee_line(&GUARANTEE, edition));
     let c = collateral_line(&CASH);
     for (edition, d, g) in [(1, &d1, &g1), (2, &d2, &g2)] {
         let found = four_numbers(&[&header(edition), d, &c, g].map(String::as_str).concat());
@@ -325,19 +284,11 @@ fn the_floor_decides_the_order_of_cover() {
 /// Every accepted party up to the class, and its weight in percent, with the
 /// floor for the unrated of class 3 only where they are counterparties.
 fn parties(last_class: u64, edition: u64) -> Vec<(Party, u64)> {
-    let floored = edition == 2;
-    let own = |class, step: u64| match class {
-        1 => [100, 0, 20, 50, 100, 100, 150][step as usize],
-        2 => [50, 20, 50, 50, 100, 100, 150][step as usize],
-        _ => [100, 20, 50, 100, 100, 150, 150][step as usize],
-    };
-    let weight = |class, step, sovereign: u64| match (class, step) {
-        (2, 0) if floored => [100, 50, 50, 50, 100, 100, 150][sovereign as usize],
-        (3, 0) if floored && last_class == 4 => {
-            [100, 100, 100, 100, 100, 100, 150][sovereign as usize]
-        }
-        (4, _) => 75,
-        _ => own(class, step),
+    let weight = |class, step, sovereign: u64| match (class, step, edition) {
+        (2, 0, 2) => [100, 50, 50, 50, 100, 100, 150][sovereign as usize],
+        (2, 0, 3) => 150,
+        (3, 0, 2 | 3) if last_class == 4 => [100, 100, 100, 100, 100, 100, 150][sovereign as usize],
+        _ => weight(class, step, edition),
     };
     let mut parties = Vec::new();
     for class in 1..=last_class {

@@ -3,10 +3,13 @@
 #![allow(dead_code)] // each test file uses some of these
 
 use reference::{
-    add_collateral, add_guarantee, open, Collateral, Guarantee, Outcome, Record, Terms,
+    add_collateral, add_guarantee, answer_book, open, report, Collateral, Guarantee, Outcome,
+    Record, Terms,
 };
 
-pub const EDITIONS: [u64; 2] = [1, 2];
+pub const EDITIONS: [u64; 3] = [1, 2, 3];
+/// Editions whose lines send the sovereign's step and whose rules have a floor.
+pub const WITH_SOVEREIGN: [u64; 2] = [2, 3];
 
 /// An unrated corporate's loan of cash for 1,800 days, revalued daily.
 pub const TERMS: Terms = Terms {
@@ -53,6 +56,43 @@ pub const GUARANTEE: Guarantee = Guarantee {
     unreflected: 1,
 };
 
+/// A counterparty or provider: class, step and sovereign's step.
+pub type Party = [u64; 3];
+
+pub fn terms_of([class, step, sovereign_step]: Party, edition: u64) -> Terms {
+    Terms {
+        class,
+        step,
+        sovereign_step,
+        edition,
+        ..TERMS
+    }
+}
+
+pub fn guarantee_of([class, step, sovereign_step]: Party) -> Guarantee {
+    Guarantee {
+        class,
+        step,
+        sovereign_step,
+        ..GUARANTEE
+    }
+}
+
+/// Goods: type, step, issue life and the listed entry.
+pub type Goods = [u64; 4];
+
+/// Goods in the deal's currency and for its whole term.
+pub fn pledged([goods, step, life, listed]: Goods, amount: u64) -> Collateral {
+    Collateral {
+        amount,
+        goods,
+        step,
+        life,
+        listed,
+        ..CASH
+    }
+}
+
 /// Opens a deal and adds the items, none of which may be refused.
 pub fn deal(terms: Terms, collateral: &[Collateral], guarantees: &[Guarantee]) -> Record {
     let mut record = open(terms).expect("accepted terms");
@@ -65,14 +105,40 @@ pub fn deal(terms: Terms, collateral: &[Collateral], guarantees: &[Guarantee]) -
     record
 }
 
+/// The same deal under the edition.
+pub fn under(record: &Record, edition: u64) -> Record {
+    let mut changed = record.clone();
+    changed.terms.edition = edition;
+    changed
+}
+
 /// Outcome of a single item of collateral.
 pub fn outcome_of_collateral(terms: Terms, item: Collateral) -> Outcome {
-    reference::report(&deal(terms, &[item], &[])).collateral[0]
+    report(&deal(terms, &[item], &[])).collateral[0]
 }
 
 /// Outcome of a single guarantee.
 pub fn outcome_of_guarantee(terms: Terms, item: Guarantee) -> Outcome {
-    reference::report(&deal(terms, &[], &[item])).guarantees[0].0
+    report(&deal(terms, &[], &[item])).guarantees[0].0
+}
+
+/// Refusals of the record by reporting and by both ways of adding.
+pub fn refusals(record: &Record) -> [u64; 3] {
+    let mut same = record.clone();
+    let added = add_collateral(&mut same, CASH);
+    let guaranteed = add_guarantee(&mut same, GUARANTEE);
+    if added == 40 && guaranteed == 40 {
+        assert_eq!(&same, record);
+    }
+    [report(record).refusal, added, guaranteed]
+}
+
+/// The four numbers of a book of one deal.
+pub fn four_numbers(book: &str) -> [u64; 4] {
+    let mut results = [0; 4];
+    let reply = answer_book(book.as_bytes(), &mut results);
+    assert_eq!([reply.refusal, reply.deals as u64], [0, 1], "{book:?}");
+    results
 }
 
 pub fn terms_fields(t: &Terms) -> [u64; 12] {
@@ -132,6 +198,20 @@ pub fn sovereign_fits(class: u64, sovereign_step: u64) -> bool {
     }
 }
 
+/// The papers' risk weights of a class and step by themselves. The papers print
+/// the unrated column last; here it is the first, step 0.
+pub fn weight(class: u64, step: u64, edition: u64) -> u64 {
+    let by_step = match (class, edition) {
+        (1, _) => [100, 0, 20, 50, 100, 100, 150],
+        (2, 3) => [150, 20, 30, 50, 100, 100, 150],
+        (2, _) => [50, 20, 50, 50, 100, 100, 150],
+        (3, 3) => [100, 20, 50, 75, 100, 150, 150],
+        (3, _) => [100, 20, 50, 100, 100, 150, 150],
+        _ => [75; 7],
+    };
+    by_step[step as usize]
+}
+
 /// The numbers of a D line; the edition stands in the header.
 pub fn sent_terms(terms: &Terms) -> Vec<u64> {
     let fields = terms_fields(terms);
@@ -172,6 +252,12 @@ pub fn collateral_line(item: &Collateral) -> String {
 
 pub fn guarantee_line(item: &Guarantee, edition: u64) -> String {
     line('G', &sent_guarantee(item, edition))
+}
+
+/// A book of one deal with collateral.
+pub fn book_of(terms: &Terms, items: &[Collateral]) -> String {
+    let items: String = items.iter().map(collateral_line).collect();
+    header(terms.edition) + &terms_line(terms) + &items
 }
 
 /// The paper shows tabs as spaces.
@@ -222,8 +308,8 @@ impl Random {
             1 => self.within(1, 2_000),
             2 => self.within(1, 100_000),
             _ => self.pick(&[
-                1, 89, 90, 91, 92, 359, 360, 361, 1_799, 1_800, 1_801, 35_999, 36_000, 36_001,
-                99_999, 100_000,
+                1, 89, 90, 91, 92, 359, 360, 361, 1_079, 1_080, 1_081, 1_799, 1_800, 1_801, 3_599,
+                3_600, 3_601, 35_999, 36_000, 36_001, 99_999, 100_000,
             ]),
         }
     }
