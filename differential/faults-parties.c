@@ -45,7 +45,7 @@ static void weigh_own(struct party *party)
  * guarantees unrated has ground 28 whatever it weighs. */
 static void mistake_floor(const char *of, int counterparty, uint64_t edition, struct party *party)
 {
-  int second = edition == 2;
+  int second = edition == 2; /* The floor of edition 3 is among faults-2023.c. */
   int unrated = party->step == 0 && (party->party_class == 2 || counterparty);
   int more = sovereign_weight(party) > own_weight(party);
 
@@ -56,7 +56,7 @@ static void mistake_floor(const char *of, int counterparty, uint64_t edition, st
       weigh_own(party);
   } else if (fault_of(of, "-floor-of-rated") && second && party->step != 0 && more) {
     weigh_as_sovereign(party);
-  } else if (fault_of(of, "-floor-under-1") && !second && unrated && more) {
+  } else if (fault_of(of, "-floor-under-1") && edition == 1 && unrated && more) {
     weigh_as_sovereign(party);
   } else if (second && unrated) {
     int provider = !counterparty && fault_of(of, "-no-floor-of-providers");
@@ -134,8 +134,10 @@ uint64_t mistaken_edition(const char *call, uint64_t edition)
 {
   if (fault_of(call, "-edition-0") && edition == 0)
     return 1;
+  if (fault_of(call, "-edition-4") && edition == 4)
+    return 3;
   if (fault_of(call, "-edition-3") && edition == 3)
-    return 2;
+    return 4;
   return edition;
 }
 
@@ -160,7 +162,7 @@ static void mistake_line(uint64_t edition, uint8_t *line, const uint8_t *end)
   uint8_t zero = '0';
   uint8_t *party_class = digit_in(line, end, 2);
   uint8_t *step = digit_in(line, end, 3);
-  uint8_t *sovereign_step = edition == 2 ? digit_in(line, end, 4) : &zero;
+  uint8_t *sovereign_step = edition == 1 ? &zero : digit_in(line, end, 4);
 
   if (party_class != NULL && step != NULL && sovereign_step != NULL) {
     struct party party = {*party_class - '0', *step - '0', *sovereign_step - '0'};
@@ -174,8 +176,7 @@ static void mistake_line(uint64_t edition, uint8_t *line, const uint8_t *end)
 
 void mistake_book_parties(uint8_t *book, size_t length)
 {
-  static const char second[] = "CRM\t2\n";
-  uint64_t edition = length >= 6 && memcmp(book, second, 6) == 0 ? 2 : 1;
+  uint64_t edition = length > 4 && (book[4] == '2' || book[4] == '3') ? (uint64_t)(book[4] - '0') : 1;
   uint8_t *end = book + length;
 
   for (uint8_t *line = book; line != NULL && line < end;) {

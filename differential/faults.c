@@ -1,23 +1,9 @@
-/* The proved library with one number spoiled, or with some days, a party or an
- * edition mistaken, chosen by HADLEPHOGA_FAULT. The exact calls are the library's
- * own, renamed by differential/faults. */
+/* The proved library with one number spoiled, or with some days, a party, an
+ * edition or a table mistaken, chosen by HADLEPHOGA_FAULT. */
 #include <stdlib.h>
 #include <string.h>
 
 #include "faults.h"
-
-uint64_t exact_layout(void);
-uint64_t exact_answer_book(const uint8_t *book, size_t book_length,
-                           uint64_t *results, size_t results_length,
-                           uint64_t *deals);
-uint64_t exact_open_deal(const uint64_t *terms, size_t terms_length,
-                         uint64_t *record, size_t record_length);
-uint64_t exact_add_collateral(uint64_t *record, size_t record_length,
-                              const uint64_t *item, size_t item_length);
-uint64_t exact_add_guarantee(uint64_t *record, size_t record_length,
-                             const uint64_t *item, size_t item_length);
-uint64_t exact_report_deal(const uint64_t *record, size_t record_length,
-                           uint64_t *report, size_t report_length);
 
 static const char *chosen(void)
 {
@@ -41,6 +27,11 @@ int fault_of(const char *of, const char *name)
   size_t length = strlen(of);
 
   return strncmp(chosen(), of, length) == 0 && strcmp(chosen() + length, name) == 0;
+}
+
+int fault_among(const char *of)
+{
+  return strncmp(chosen(), of, strlen(of)) == 0;
 }
 
 /* The last deal's answer that is, or is not, a refusal. */
@@ -123,8 +114,10 @@ static const uint8_t *book_taken(const uint8_t *book, size_t length, uint8_t *co
   if (length > HADLEPHOGA_BOOK_LIMIT)
     return book;
   memcpy(copy, book, length);
-  if (fault("book-header-3") && headed(book, length, '3'))
+  if (fault("book-header-3-as-2") && headed(book, length, '3'))
     copy[4] = '2';
+  if (fault("book-header-4") && headed(book, length, '4'))
+    copy[4] = '3';
   mistake_book_days(copy, length);
   mistake_book_parties(copy, length);
   return copy;
@@ -161,7 +154,8 @@ uint64_t hadlephoga_answer_book(const uint8_t *book, size_t book_length,
   uint64_t refusal;
 
   *deals = 0;
-  if (fault("book-header-2") && headed(book, book_length, '2'))
+  if ((fault("book-header-2") && headed(book, book_length, '2')) ||
+      (fault("book-header-3") && headed(book, book_length, '3')))
     return 9;
   refusal = exact_answer_book(taken, book_length, results, results_length, deals);
   if (refusal != 0) {
@@ -173,6 +167,7 @@ uint64_t hadlephoga_answer_book(const uint8_t *book, size_t book_length,
       results[0] = 0;
     return refusal;
   }
+  mistake_answers("book-2023", taken, book_length, (struct hadlephoga_answer *)results);
   spoil_answers(results, *deals);
   if (fault("book-behind-answers") && results_length / HADLEPHOGA_ANSWER_LENGTH > *deals)
     results[*deals * HADLEPHOGA_ANSWER_LENGTH] = 0;
@@ -295,6 +290,7 @@ uint64_t hadlephoga_report_deal(const uint64_t *record, size_t record_length,
       report[1] = 1;
     return fault(record_length == HADLEPHOGA_RECORD_LENGTH ? "report-refusal" : "report-record-length") ? 0 : 40;
   }
+  mistake_report("report-2023", *(const struct hadlephoga_deal *)taken, (struct hadlephoga_report *)report);
   if (fault("report-exposure"))
     lower(&report[0]);
   if (fault("report-collateral-value"))

@@ -4,9 +4,25 @@
 
 #include "hadlephoga.h"
 
-/* Whether this fault is chosen; or one of a list, of a field or of a call. */
+/* The library's own calls, renamed by differential/faults. */
+uint64_t exact_layout(void);
+uint64_t exact_answer_book(const uint8_t *book, size_t book_length,
+                           uint64_t *results, size_t results_length,
+                           uint64_t *deals);
+uint64_t exact_open_deal(const uint64_t *terms, size_t terms_length,
+                         uint64_t *record, size_t record_length);
+uint64_t exact_add_collateral(uint64_t *record, size_t record_length,
+                              const uint64_t *item, size_t item_length);
+uint64_t exact_add_guarantee(uint64_t *record, size_t record_length,
+                             const uint64_t *item, size_t item_length);
+uint64_t exact_report_deal(const uint64_t *record, size_t record_length,
+                           uint64_t *report, size_t report_length);
+
+/* Whether this fault is chosen; or one of a list, of a field or of a call; or any
+ * of such. */
 int fault(const char *name);
 int fault_of(const char *of, const char *name);
+int fault_among(const char *of);
 
 /* What the library is passed in place of what it was sent, so that it seems to
  * take it for something else. Days: cut to 16 bits, or held to a limit that is a
@@ -23,3 +39,8 @@ void mistake_guarantee_party(struct hadlephoga_guarantee *item);
 void mistake_record_parties(struct hadlephoga_deal *deal);
 void mistake_book_parties(uint8_t *book, size_t length);
 uint64_t mistaken_edition(const char *call, uint64_t edition);
+
+/* Tables: what is written in place of the report of an accepted deal, and in
+ * place of the answers to a book that is not refused. */
+void mistake_report(const char *of, struct hadlephoga_deal deal, struct hadlephoga_report *report);
+void mistake_answers(const char *of, const uint8_t *book, size_t length, struct hadlephoga_answer *answers);

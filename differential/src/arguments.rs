@@ -9,8 +9,8 @@ pub const USAGE: &str = "\
 usage: differential [--seed S] [--deals N] [--seconds T] [--require-all]
        differential --seed S --book K
        differential conformance DIR
-       differential bench [--rounds R] [--headed 1|2]
-       differential books DIR [--headed 1|2]
+       differential bench [--rounds R] [--headed 1|2|3]
+       differential books DIR [--headed 1|2|3]
        differential once proved|reference FILE N";
 
 const SEED: u64 = 1;
@@ -66,7 +66,7 @@ pub fn command(arguments: &[String]) -> Option<Command> {
     }
 }
 
-/// The books under both headers, or under one.
+/// The one header under which the books are measured.
 fn headed(edition: &str) -> Option<Vec<u64>> {
     let edition = edition.parse().ok()?;
     EDITIONS.contains(&edition).then(|| vec![edition])
@@ -171,19 +171,19 @@ mod tests {
             let editions = editions.to_vec();
             Some(Command::Bench { rounds, editions })
         };
-        assert_eq!(parsed("bench"), bench(ROUNDS, &[1, 2]));
-        assert_eq!(parsed("bench --rounds 5"), bench(5, &[1, 2]));
-        assert_eq!(parsed("bench --headed 1 --rounds 5"), bench(5, &[1]));
+        assert_eq!(parsed("bench"), bench(ROUNDS, &[1, 2, 3]));
+        assert_eq!(parsed("bench --rounds 5"), bench(5, &[1, 2, 3]));
+        assert_eq!(parsed("bench --headed 3 --rounds 5"), bench(5, &[3]));
         let books = |editions: &[u64]| {
             let (folder, editions) = ("a".into(), editions.to_vec());
             Some(Command::Books { folder, editions })
         };
-        assert_eq!(parsed("books a"), books(&[1, 2]));
+        assert_eq!(parsed("books a"), books(&[1, 2, 3]));
         assert_eq!(parsed("books a --headed 2"), books(&[2]));
         for wrong in [
             "bench --rounds 0",
             "bench --rounds",
-            "bench --headed 3",
+            "bench --headed 4",
             "books a --headed x",
             "books",
         ] {

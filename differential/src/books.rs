@@ -4,12 +4,14 @@ use hadlephoga::BOOK_LIMIT;
 
 use crate::damage::damage;
 use crate::deal::{deal, deal_with};
+use crate::debt::make_debt;
 use crate::first_lines::no_header;
-use crate::heading::{header, other, HEADER_LENGTH};
+use crate::heading::{header, with_other_lines, HEADER_LENGTH};
 use crate::line::Line;
 use crate::malformed::{malform, NEAR};
 use crate::outside::put_outside;
 use crate::random::Random;
+use crate::reweighed::reweigh;
 use crate::unrated::unrate;
 use crate::values;
 
@@ -19,6 +21,10 @@ pub enum Kind {
     Valid,
     /// Every line is accepted, and most parties are unrated.
     Unrated,
+    /// Every line is accepted, and most parties are such as the 2023 weights change.
+    Reweighed,
+    /// Every line is accepted, and most goods are debt at the edge of a band.
+    Debt,
     /// Fields just outside their ranges.
     Outside,
     /// Lines that cannot be read.
@@ -32,17 +38,19 @@ pub enum Kind {
     /// As many deals as a book can hold, each of a few bytes.
     ManyDeals,
     WrongHeader,
-    /// Lines of one header under the other.
-    OtherHeader,
+    /// Lines of one header under another.
+    OtherLines,
     WrongSecondLine,
     /// Bytes without any order, or without much.
     Bytes,
 }
 
 const KINDS: &[(u64, Kind)] = &[
-    (3000, Kind::Valid),
-    (1500, Kind::Unrated),
-    (2000, Kind::Outside),
+    (2300, Kind::Valid),
+    (1400, Kind::Unrated),
+    (1000, Kind::Reweighed),
+    (2500, Kind::Debt),
+    (2200, Kind::Outside),
     (1500, Kind::Malformed),
     (1300, Kind::Damaged),
     (600, Kind::FullLists),
@@ -50,7 +58,7 @@ const KINDS: &[(u64, Kind)] = &[
     // Thousands of deals each, so few books.
     (3, Kind::ManyDeals),
     (400, Kind::WrongHeader),
-    (100, Kind::OtherHeader),
+    (100, Kind::OtherLines),
     (400, Kind::WrongSecondLine),
     (300, Kind::Bytes),
 ];
@@ -60,6 +68,8 @@ impl Kind {
         match self {
             Kind::Valid => "valid",
             Kind::Unrated => "valid, most parties unrated",
+            Kind::Reweighed => "valid, most parties of changed weights",
+            Kind::Debt => "valid, most goods debt at band edges",
             Kind::Outside => "fields outside their ranges",
             Kind::Malformed => "malformed lines",
             Kind::Damaged => "damaged bytes",
@@ -67,7 +77,7 @@ impl Kind {
             Kind::Large => "close to 65,536 bytes",
             Kind::ManyDeals => "thousands of deals",
             Kind::WrongHeader => "wrong header",
-            Kind::OtherHeader => "lines of the other header",
+            Kind::OtherLines => "lines of another header",
             Kind::WrongSecondLine => "wrong second line",
             Kind::Bytes => "random bytes",
         }
@@ -105,7 +115,9 @@ pub fn book(seed: u64, number: u64) -> Book {
 fn of_kind(kind: Kind, random: &mut Random, edition: u64) -> Vec<u8> {
     match kind {
         Kind::Valid => valid(random, edition),
-        Kind::Unrated => unrated(random, edition),
+        Kind::Unrated => valid_with(random, edition, unrate),
+        Kind::Reweighed => valid_with(random, edition, reweigh),
+        Kind::Debt => valid_with(random, edition, make_debt),
         Kind::Outside => outside(random, edition),
         Kind::Malformed => with_malformed_lines(random, edition),
         Kind::Damaged => damaged(random, edition),
@@ -113,7 +125,7 @@ fn of_kind(kind: Kind, random: &mut Random, edition: u64) -> Vec<u8> {
         Kind::Large => large(random, edition),
         Kind::ManyDeals => many_deals(random, edition),
         Kind::WrongHeader => wrong_header(random, edition),
-        Kind::OtherHeader => other_header(random, edition),
+        Kind::OtherLines => other_lines(random, edition),
         Kind::WrongSecondLine => wrong_second_line(random, edition),
         Kind::Bytes => bytes(random, edition),
     }
@@ -138,10 +150,11 @@ fn valid(random: &mut Random, edition: u64) -> Vec<u8> {
     written(edition, some_deals(random, edition).iter().flatten())
 }
 
-fn unrated(random: &mut Random, edition: u64) -> Vec<u8> {
+/// Accepted deals, each changed so that it still is.
+fn valid_with(random: &mut Random, edition: u64, change: fn(&mut Random, &mut [Line])) -> Vec<u8> {
     let mut deals = some_deals(random, edition);
     for deal in &mut deals {
-        unrate(random, deal);
+        change(random, deal);
     }
     written(edition, deals.iter().flatten())
 }
@@ -181,7 +194,7 @@ fn with_malformed_lines(random: &mut Random, edition: u64) -> Vec<u8> {
             let mut text = line.text(edition);
             if spoilt.contains(&place) {
                 match random.percent(10) {
-                    true => text = line.text(other(edition)),
+                    true => text = line.text(with_other_lines(edition)),
                     false => malform(random, &mut text),
                 }
             }
@@ -277,10 +290,10 @@ fn wrong_header(random: &mut Random, edition: u64) -> Vec<u8> {
             first.truncate(random.index(HEADER_LENGTH));
             return first;
         }
-        3 => first.insert(5, random.pick(b"\r \t012")),
+        3 => first.insert(5, random.pick(b"\r \t0123")),
         4 => {
             first = random
-                .pick(&[b"crm\t1\n", b"CRM 1\n", b"CRM 2\n", b"CRN\t1\n"])
+                .pick(&[b"crm\t1\n", b"CRM 1\n", b"CRM 3\n", b"CRN\t1\n"])
                 .to_vec()
         }
         5 => first.insert(0, random.pick(b"\n \xef\x00C")),
@@ -296,13 +309,13 @@ fn wrong_header(random: &mut Random, edition: u64) -> Vec<u8> {
     first
 }
 
-/// One header, and all deals or the later ones as the other has them.
-fn other_header(random: &mut Random, edition: u64) -> Vec<u8> {
+/// One header, and all deals or the later ones as another has them.
+fn other_lines(random: &mut Random, edition: u64) -> Vec<u8> {
     let mut book = header(edition).to_vec();
     for (place, deal) in some_deals(random, edition).iter().enumerate() {
         let of = match place == 0 && random.percent(50) {
             true => edition,
-            false => other(edition),
+            false => with_other_lines(edition),
         };
         book.extend(texts(of, deal).concat());
     }
@@ -384,7 +397,7 @@ mod tests {
     }
 
     #[test]
-    fn every_kind_occurs_under_both_headers() {
+    fn every_kind_occurs_under_each_header() {
         for (_, kind) in KINDS.iter().filter(|(_, kind)| *kind != Kind::WrongHeader) {
             for edition in EDITIONS {
                 let books = (0..20).map(|n| of_kind(*kind, &mut Random::new(37, n), edition));
@@ -402,14 +415,15 @@ mod tests {
     }
 
     #[test]
-    fn lines_of_the_other_header_are_refused() {
+    fn lines_of_another_header_are_refused() {
         for number in 0..100 {
             let random = &mut Random::new(41, number);
-            let edition = number % 2 + 1;
-            for book in [valid(random, edition), unrated(random, edition)] {
-                assert!(refusals(&book).iter().all(|refusal| *refusal == 0));
+            let edition = number % 3 + 1;
+            for kind in [Kind::Valid, Kind::Unrated, Kind::Reweighed, Kind::Debt] {
+                let refusals = refusals(&of_kind(kind, random, edition));
+                assert!(refusals.iter().all(|refusal| *refusal == 0));
             }
-            let refusals = refusals(&other_header(random, edition));
+            let refusals = refusals(&other_lines(random, edition));
             assert!(refusals.iter().skip(1).all(|refusal| *refusal == 11));
         }
     }

@@ -7,8 +7,9 @@ use hadlephoga::{
 };
 use reference::DealRead;
 
+use crate::changes;
 use crate::floors;
-use crate::heading::{edition_of, other};
+use crate::heading::{another, edition_of};
 use crate::line::{count_deals, lines, opens_deal};
 use crate::operations;
 use crate::random::Random;
@@ -183,32 +184,38 @@ fn accepted(
     }
     let report = Report::from_numbers(&report);
     tally.report(&record, &report);
-    if random.percent(10) {
-        other_edition(random, &record, &report, tally)?;
+    if random.percent(25) {
+        another_edition(random, &record, &report, tally)?;
     }
     Ok(report)
 }
 
-/// An accepted deal that is changed to the other edition and to other steps of
-/// sovereigns, which have no effect under edition 1: so one report is without
-/// the floor, and one with it.
-fn other_edition(
+/// An accepted deal that is changed to another edition. To or from edition 1, where
+/// steps of sovereigns have no effect, it is changed to other ones too; between 2
+/// and 3 they stay, so that the tables alone differ.
+fn another_edition(
     random: &mut Random,
     record: &Record,
     report: &Report,
     tally: &mut Tally,
 ) -> Result<(), Difference> {
     let mut changed = record.clone();
-    changed.terms.edition = other(record.terms.edition);
-    change_sovereigns(random, &mut changed);
+    changed.terms.edition = another(random, record.terms.edition);
+    let [from, to] = [record, &changed].map(|of| of.terms.edition);
+    if from == 1 || to == 1 {
+        change_sovereigns(random, &mut changed);
+    }
     let (_, numbers) = self::report(random, &changed.to_numbers(), tally)?;
     let other = Report::from_numbers(&numbers);
     tally.report(&changed, &other);
-    let reports = match changed.terms.edition {
-        1 => [&other, report],
-        _ => [report, &other],
+    let (earlier, reports) = match from < to {
+        true => (record, [report, &other]),
+        false => (&changed, [&other, report]),
     };
-    floors::meet_change(&mut tally.floors, record, reports);
+    match from.max(to) {
+        2 => floors::meet_change(&mut tally.floors, earlier, reports),
+        _ => changes::meet(&mut tally.changes, earlier, reports),
+    }
     Ok(())
 }
 

@@ -43,7 +43,7 @@ mod tests {
     #[test]
     fn every_deal_is_accepted() {
         for number in 0..2000 {
-            let edition = number % 2 + 1;
+            let edition = number % 3 + 1;
             let deal = deal(&mut Random::new(7, number), edition);
             let mut book = header(edition).to_vec();
             book.extend(deal.iter().flat_map(|line| line.text(edition)));

@@ -10,14 +10,17 @@ use crate::sides::{reference_refusal, reference_report};
 /// Next to the known ones, and such as a narrower width would make known.
 const UNKNOWN: &[u64] = &[
     0,
-    3,
     4,
+    5,
     (1 << 8) + 1,
     (1 << 8) + 2,
+    (1 << 8) + 3,
     (1 << 16) + 1,
     (1 << 16) + 2,
+    (1 << 16) + 3,
     (1 << 32) + 1,
     (1 << 32) + 2,
+    (1 << 32) + 3,
     u64::MAX,
 ];
 
@@ -87,7 +90,7 @@ mod tests {
     #[test]
     fn known_and_unknown_editions() {
         let mut met = Editions::new();
-        for number in 0..200 {
+        for number in 0..300 {
             let random = &mut Random::new(23, number);
             let known = values::edition(random);
             for edition in [known, unknown(random)] {
@@ -100,7 +103,7 @@ mod tests {
             }
         }
         for cells in met.families() {
-            assert_eq!(cells.met(), 2 + UNKNOWN.len());
+            assert_eq!(cells.met(), EDITIONS.len() + UNKNOWN.len());
             assert_eq!(cells.met(), cells.all());
             assert_eq!(cells.unlisted().count(), 0);
         }
@@ -109,10 +112,10 @@ mod tests {
     #[test]
     fn other_causes_are_not_met() {
         let mut met = Editions::new();
-        let unknown_class = [500, 5, 0, 0, 978, 3, 1, 90, 1, 0, 0, 3];
+        let unknown_class = [500, 5, 0, 0, 978, 3, 1, 90, 1, 0, 0, 4];
         met.meet_opening(&unknown_class, UNKNOWN_REFUSED);
         met.meet_opening(&[1; 3], 11);
-        met.meet_record(&[3; RECORD_LENGTH], 40);
+        met.meet_record(&[4; RECORD_LENGTH], 40);
         assert!(met.families().iter().all(|cells| cells.met() == 0));
     }
 }

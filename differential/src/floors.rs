@@ -1,5 +1,6 @@
 //! What the floor of the sovereign's weight does: to the weight of an unrated
-//! party, and to a deal that is reported with it and without it.
+//! party under editions 2 and 3, and to a deal that is reported with it and without
+//! it under the same tables.
 
 use hadlephoga::{Guarantee, Outcome, Record, Report, Terms};
 
@@ -7,6 +8,8 @@ use crate::cells::{cell, Cells};
 
 const BANK: u64 = 2;
 const CORPORATE: u64 = 3;
+/// Editions with the floor.
+const FLOORED: [u64; 2] = [2, 3];
 /// In percent, by step from 0.
 const SOVEREIGNS: [u64; 7] = [100, 0, 20, 50, 100, 100, 150];
 
@@ -26,30 +29,34 @@ const GROUND_29_UNMADE: u64 = 2;
 const ORDER: u64 = 3;
 const WEIGHTED_AMOUNT: u64 = 4;
 
-/// A provider is told from the counterparty by its first number; then comes the
-/// class and how the sovereign weighs beside it. A change has one number.
+/// Whose floor it is, the class, how a sovereign weighs beside it, and the edition;
+/// or a change.
 pub fn cells(title: &'static str) -> Cells {
-    let parties = [
-        (COUNTERPARTY, BANK),
-        (COUNTERPARTY, CORPORATE),
-        (PROVIDER, BANK),
-    ];
-    let beside = parties
-        .into_iter()
-        .flat_map(|(whose, class)| (LESS..=MORE).map(move |weighs| cell(&[whose, class, weighs])));
+    let mut cells = Vec::new();
+    for edition in FLOORED {
+        for (whose, class) in [
+            (COUNTERPARTY, BANK),
+            (COUNTERPARTY, CORPORATE),
+            (PROVIDER, BANK),
+        ] {
+            let beside = (0..=6).map(|step| beside(edition, class, step));
+            cells.extend(beside.map(|weighs| cell(&[whose, class, weighs, edition])));
+        }
+    }
     let changes = (GROUND_29_MADE..=WEIGHTED_AMOUNT).map(|change| cell(&[CHANGE, change]));
-    Cells::new(title, beside.chain(changes))
+    Cells::new(title, cells.into_iter().chain(changes))
 }
 
-fn own_weight(class: u64) -> u64 {
-    match class {
-        BANK => 50,
+fn own_weight(edition: u64, class: u64) -> u64 {
+    match (class, edition) {
+        (BANK, 3) => 150,
+        (BANK, _) => 50,
         _ => 100,
     }
 }
 
-fn beside(class: u64, sovereign_step: u64) -> u64 {
-    match SOVEREIGNS[sovereign_step as usize].cmp(&own_weight(class)) {
+fn beside(edition: u64, class: u64, sovereign_step: u64) -> u64 {
+    match SOVEREIGNS[sovereign_step as usize].cmp(&own_weight(edition, class)) {
         std::cmp::Ordering::Less => LESS,
         std::cmp::Ordering::Equal => EQUAL,
         std::cmp::Ordering::Greater => MORE,
@@ -59,15 +66,18 @@ fn beside(class: u64, sovereign_step: u64) -> u64 {
 /// A counterparty of an accepted deal that bears some of the exposure.
 pub fn meet_counterparty(cells: &mut Cells, terms: &Terms) {
     let (edition, class) = (terms.edition, terms.class);
-    if edition == 2 && terms.step == 0 && [BANK, CORPORATE].contains(&class) {
-        cells.meet(&[COUNTERPARTY, class, beside(class, terms.sovereign_step)]);
+    if FLOORED.contains(&edition) && terms.step == 0 && [BANK, CORPORATE].contains(&class) {
+        let beside = beside(edition, class, terms.sovereign_step);
+        cells.meet(&[COUNTERPARTY, class, beside, edition]);
     }
 }
 
 /// A provider of an accepted deal whose weight counts.
 pub fn meet_provider(cells: &mut Cells, terms: &Terms, item: &Guarantee) {
-    if terms.edition == 2 && item.step == 0 && item.class == BANK {
-        cells.meet(&[PROVIDER, BANK, beside(BANK, item.sovereign_step)]);
+    let edition = terms.edition;
+    if FLOORED.contains(&edition) && item.step == 0 && item.class == BANK {
+        let beside = beside(edition, BANK, item.sovereign_step);
+        cells.meet(&[PROVIDER, BANK, beside, edition]);
     }
 }
 
@@ -101,14 +111,19 @@ mod tests {
 
     #[test]
     fn every_case_is_listed() {
-        assert_eq!(cells("").all(), 3 * 3 + 4);
+        // No sovereign weighs more than an unrated bank under edition 3.
+        assert_eq!(cells("").all(), 3 * 3 + (2 + 3 + 2) + 4);
     }
 
     #[test]
     fn the_sovereign_beside_the_party() {
-        let of = |class| [0, 1, 2, 3, 4, 5, 6].map(|step| beside(class, step));
-        assert_eq!(of(BANK), [MORE, LESS, LESS, EQUAL, MORE, MORE, MORE]);
-        assert_eq!(of(CORPORATE), [EQUAL, LESS, LESS, LESS, EQUAL, EQUAL, MORE]);
+        let of = |edition, class| [0, 1, 2, 3, 4, 5, 6].map(|step| beside(edition, class, step));
+        assert_eq!(of(2, BANK), [MORE, LESS, LESS, EQUAL, MORE, MORE, MORE]);
+        assert_eq!(of(3, BANK), [LESS, LESS, LESS, LESS, LESS, LESS, EQUAL]);
+        for edition in FLOORED {
+            let corporate = [EQUAL, LESS, LESS, LESS, EQUAL, EQUAL, MORE];
+            assert_eq!(of(edition, CORPORATE), corporate);
+        }
     }
 
     /// A loan of 100 to an unrated bank whose sovereign weighs 150.

@@ -2,10 +2,12 @@
 
 use hadlephoga::Terms;
 
+use crate::random::Random;
+
 /// The editions that a header can say.
-pub const EDITIONS: [u64; 2] = [1, 2];
-const HEADERS: [&[u8]; 2] = [b"CRM\t1\n", b"CRM\t2\n"];
-/// Bytes of either header.
+pub const EDITIONS: [u64; 3] = [1, 2, 3];
+const HEADERS: [&[u8]; 3] = [b"CRM\t1\n", b"CRM\t2\n", b"CRM\t3\n"];
+/// Bytes of each header.
 pub const HEADER_LENGTH: usize = 6;
 
 /// Places of class, step and sovereign's step in terms and in a guarantee.
@@ -18,12 +20,23 @@ pub const EDITION: usize = Terms::LENGTH - 1;
 pub fn header(edition: u64) -> &'static [u8] {
     match edition {
         1 => HEADERS[0],
-        _ => HEADERS[1],
+        2 => HEADERS[1],
+        _ => HEADERS[2],
     }
 }
 
-pub fn other(edition: u64) -> u64 {
-    3 - edition
+/// One of the other editions.
+pub fn another(random: &mut Random, edition: u64) -> u64 {
+    let others = Vec::from_iter(EDITIONS.into_iter().filter(|other| *other != edition));
+    random.pick(&others)
+}
+
+/// An edition whose lines D and G are laid out otherwise; 2 and 3 have the same.
+pub fn with_other_lines(edition: u64) -> u64 {
+    match edition {
+        1 => 2,
+        _ => 1,
+    }
 }
 
 /// The edition that the first line of a book says; None where it is no header.
@@ -52,11 +65,22 @@ mod tests {
         for edition in EDITIONS {
             assert_eq!(header(edition).len(), HEADER_LENGTH);
             assert_eq!(edition_of(header(edition)), Some(edition));
-            assert_eq!(other(other(edition)), edition);
         }
-        assert_ne!(header(1), header(2));
-        for book in [b"" as &[u8], b"CRM\t2", b"CRM\t3\n", b"CRM\t12\n"] {
+        for book in [b"" as &[u8], b"CRM\t3", b"CRM\t4\n", b"CRM\t23\n"] {
             assert_eq!(edition_of(book), None);
+        }
+    }
+
+    #[test]
+    fn other_editions() {
+        for edition in EDITIONS {
+            let others = (0..100).map(|number| another(&mut Random::new(47, number), edition));
+            let mut others = Vec::from_iter(others.chain([edition]));
+            others.sort();
+            others.dedup();
+            assert_eq!(others, EDITIONS);
+            let sent = |edition| is_sent(edition, b'G', SOVEREIGN_STEP);
+            assert_ne!(sent(edition), sent(with_other_lines(edition)));
         }
     }
 }

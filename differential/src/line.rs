@@ -90,14 +90,14 @@ pub fn count_deals(book: &[u8]) -> usize {
 #[cfg(test)]
 mod tests {
     use super::*;
-    use crate::heading::other;
+    use crate::heading::{with_other_lines, EDITIONS};
 
     fn read(text: &[u8], edition: u64) -> Option<(u8, Vec<u64>)> {
         Line::read(text, edition).map(|line| (line.letter, line.fields))
     }
 
     #[test]
-    fn texts_under_either_header() {
+    fn texts_under_each_header() {
         let guarantee = [9, 2, 0, 6, 978, 90, 90, 1, 1, 0];
         let line = Line::new(b'G', &guarantee);
         assert_eq!(line.text(1), b"G\t9\t2\t0\t978\t90\t90\t1\t1\t0\n");
@@ -110,15 +110,20 @@ mod tests {
         // The sovereign's step reads 0, the edition as the header says.
         let terms = [9, 3, 0, 0, 978, 3, 1, 90, 1, 0, 0, 1];
         assert_eq!(read(&line.text(1), 1), Some((b'D', terms.to_vec())));
+        // Lines under 3 are those under 2.
+        let terms = [9, 3, 0, 6, 978, 3, 1, 90, 1, 0, 0, 3];
+        assert_eq!(read(&line.text(2), 3), Some((b'D', terms.to_vec())));
+        assert_eq!(line.text(3), line.text(2));
     }
 
     #[test]
-    fn lines_of_the_other_header_are_malformed() {
+    fn lines_of_another_header_are_malformed() {
         for letter in *b"DCG" {
             let line = Line::new(letter, &vec![1; width(letter).expect("a known letter")]);
-            for edition in [1, 2] {
+            for edition in EDITIONS {
                 assert!(Line::read(&line.text(edition), edition).is_some());
-                let readable = Line::read(&line.text(edition), other(edition)).is_some();
+                let another = with_other_lines(edition);
+                let readable = Line::read(&line.text(edition), another).is_some();
                 assert_eq!(readable, letter == b'C');
             }
         }

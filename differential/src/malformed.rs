@@ -151,7 +151,7 @@ mod tests {
     fn every_form_takes_every_line() {
         for number in 0..5000 {
             let mut random = Random::new(3, number);
-            let edition = number % 2 + 1;
+            let edition = number % 3 + 1;
             for line in deal(&mut random, edition) {
                 malform(&mut random, &mut line.text(edition));
             }

@@ -70,7 +70,7 @@ fn beside(sort: Sort) -> &'static [u64] {
         Type => &[0, 1, 2, 10, 11],
         Life => &[0, 1, DAYS_LIMIT, DAYS_LIMIT + 1],
         Condition => &[2, 3, 10],
-        Edition => &[0, 3, 4],
+        Edition => &[0, 4, 5],
     }
 }
 

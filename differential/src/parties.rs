@@ -130,12 +130,15 @@ mod tests {
         let parties = Parties::new();
         // Sovereigns at seven steps, two classes at seven steps with seven of
         // their sovereign's, retail.
-        assert_eq!(parties.counterparties.all(), 2 * (7 + 2 * 7 * 7 + 1));
-        assert_eq!(parties.providers.all(), 2 * (7 + 2 * 7 * 7));
-        // Unrated banks and corporates, unrated banks, seven times under edition 2.
+        assert_eq!(parties.counterparties.all(), 3 * (7 + 2 * 7 * 7 + 1));
+        assert_eq!(parties.providers.all(), 3 * (7 + 2 * 7 * 7));
+        // Unrated banks and corporates, unrated banks, seven times where there is a
+        // floor.
         assert_eq!(pairs(1).count(), 21 * 22);
-        assert_eq!(pairs(2).count(), (20 + 7) * (20 + 2 * 7));
-        assert_eq!(parties.against.all(), 21 * 22 + 27 * 34);
+        for edition in [2, 3] {
+            assert_eq!(pairs(edition).count(), (20 + 7) * (20 + 2 * 7));
+        }
+        assert_eq!(parties.against.all(), 21 * 22 + 2 * 27 * 34);
     }
 
     #[test]

@@ -24,7 +24,7 @@ pub struct Measured {
 pub type Books = Vec<Measured>;
 
 /// At most so many deals, and no more than fit under each of these headers: so
-/// books under header 1 alone are those that were measured before there was
+/// books under header 1 or 2 alone are those that were measured before there was
 /// another.
 fn filled(
     name: &str,
@@ -125,7 +125,7 @@ mod tests {
 
     #[test]
     fn books_hold_what_they_say() {
-        for editions in [&EDITIONS as &[u64], &[1], &[2]] {
+        for editions in [&EDITIONS as &[u64], &[1], &[2], &[3]] {
             for books in full(editions) {
                 let longest = books.iter().map(|measured| measured.book.len()).max();
                 let room = BOOK_LIMIT - longest.expect("a book for each header");
@@ -141,11 +141,12 @@ mod tests {
         }
     }
 
-    /// The same deals, but for the sovereign's steps, under both headers.
+    /// The same deals, but for the sovereign's steps, under each header; those under
+    /// 3 are those under 2, line by line.
     #[test]
-    fn both_headers_have_the_same_deals() {
+    fn each_header_has_the_same_deals() {
         for books in all(&EDITIONS) {
-            let [first, second] = &books[..] else {
+            let [first, second, third] = &books[..] else {
                 panic!("a book for each header");
             };
             assert_eq!((first.deals, first.items), (second.deals, second.items));
@@ -154,19 +155,25 @@ mod tests {
                 let read = Line::read(with, 2).expect("a sound line");
                 assert_eq!(read.text(1), line);
             }
+            assert_eq!((third.deals, third.items), (second.deals, second.items));
+            assert!(lines(&third.book).skip(1).eq(lines(&second.book).skip(1)));
         }
     }
 
-    /// FNV-1a of each book, as the checkout before header 2 wrote it.
-    #[test]
-    fn books_under_header_1_alone_are_those_of_before() {
+    /// FNV-1a of each full book under this header alone.
+    fn hashes(edition: u64) -> Vec<u64> {
         let hash = |bytes: &[u8]| {
             bytes.iter().fold(0xCBF2_9CE4_8422_2325, |hash: u64, byte| {
                 (hash ^ u64::from(*byte)).wrapping_mul(0x0100_0000_01B3)
             })
         };
-        let hashes = full(&[1]).into_iter().flatten();
-        let hashes = Vec::from_iter(hashes.map(|measured| hash(&measured.book)));
+        let books = full(&[edition]).into_iter().flatten();
+        books.map(|measured| hash(&measured.book)).collect()
+    }
+
+    /// As the checkout before header 2 wrote them.
+    #[test]
+    fn books_under_header_1_alone_are_those_of_before() {
         let before = [
             0xCA9E_3029_F376_9ECF,
             0x2193_1945_F2EC_4E7E,
@@ -175,7 +182,21 @@ mod tests {
             0xA23F_8D85_0057_EF22,
             0x242A_D47A_759C_FBBC,
         ];
-        assert_eq!(hashes, before);
+        assert_eq!(hashes(1), before);
+    }
+
+    /// As the checkout before header 3 wrote them.
+    #[test]
+    fn books_under_header_2_alone_are_those_of_before() {
+        let before = [
+            0x123C_815D_77ED_E352,
+            0xC834_2AAE_69FA_CC08,
+            0x28F7_BCC3_62B2_77CA,
+            0x5A08_A3A2_B899_F44F,
+            0x7292_2D9A_E2ED_DDE2,
+            0xEE3F_2FCF_3827_6320,
+        ];
+        assert_eq!(hashes(2), before);
     }
 
     #[test]

@@ -6,7 +6,7 @@ use std::ops::RangeInclusive;
 use hadlephoga::{Record, ITEMS};
 
 use crate::cells::{cell, Cell, Cells};
-use crate::heading::{CLASS, EDITIONS, SOVEREIGN_STEP, STEP};
+use crate::heading::{is_sent, CLASS, EDITIONS, SOVEREIGN_STEP, STEP};
 use crate::line::Line;
 use crate::random::Random;
 use crate::sides::{reference_refusal, reference_report};
@@ -59,9 +59,9 @@ fn entries(letters: &'static [u8], steps: impl Fn(u64) -> Vec<u64> + Copy) -> Ve
     entries.collect()
 }
 
-/// Entries by letter and class; of numbers and records by edition besides.
+/// Entries by letter and class, and by edition.
 pub struct Sovereigns {
-    /// Wrong ones of lines.
+    /// Wrong ones of lines, where lines have the entry.
     lines: Cells,
     /// Right and wrong ones in opening and adding.
     numbers: Cells,
@@ -78,8 +78,8 @@ impl Sovereigns {
         all.extend(&wrong);
         Sovereigns {
             lines: Cells::new(
-                "wrong sovereign's steps of lines: line, class, entry",
-                wrong.iter().map(|entry| cell(entry)),
+                "wrong sovereign's steps of lines: line, class, entry, edition",
+                by_edition(&wrong).filter(|cell| is_sent(cell[3], b'D', SOVEREIGN_STEP)),
             ),
             numbers: Cells::new(
                 "sovereign's steps in opening and adding: line, class, entry, edition",
@@ -100,12 +100,14 @@ impl Sovereigns {
         [&self.lines, &self.numbers, &self.records, &self.past_counts]
     }
 
-    /// Counts the wrong entry of a line that was refused so.
-    pub fn meet_line(&mut self, line: &Line, refusal: u64) {
+    /// Counts the wrong entry of a line that was refused so in a book of this
+    /// edition.
+    pub fn meet_line(&mut self, line: &Line, edition: u64, refusal: u64) {
         let Line { letter, fields } = line;
         if refusal == STEP_REFUSED && *letter != b'C' && is_cause(*letter, fields) {
             let (class, step) = (fields[CLASS], fields[SOVEREIGN_STEP]);
-            self.lines.meet(&[(*letter).into(), class, step]);
+            let cell = [(*letter).into(), class, step, edition];
+            self.lines.meet(&cell);
         }
     }
 
@@ -201,24 +203,26 @@ mod tests {
         let sovereigns = Sovereigns::new();
         // Counterparties: 1 + 7 + 7 + 1 right, 10 + 4 + 4 + 10 wrong; providers 15
         // and 18.
-        assert_eq!(sovereigns.lines.all(), 28 + 18);
-        assert_eq!(sovereigns.numbers.all(), 2 * (16 + 28 + 15 + 18));
-        assert_eq!(sovereigns.records.all(), 2 * (28 + 18));
+        assert_eq!(sovereigns.lines.all(), 2 * (28 + 18));
+        assert_eq!(sovereigns.numbers.all(), 3 * (16 + 28 + 15 + 18));
+        assert_eq!(sovereigns.records.all(), 3 * (28 + 18));
         assert_eq!(sovereigns.past_counts.all(), 3);
     }
 
     #[test]
     fn a_wrong_entry_is_the_only_cause() {
         let mut met = Sovereigns::new();
-        for number in 0..2000 {
+        for number in 0..3000 {
             let random = &mut Random::new(19, number);
-            let edition = number % 2 + 1;
+            let edition = number % 3 + 1;
             for mut line in deal_with(random, edition, 0, 1) {
                 met.meet_numbers(line.letter, &line.fields, edition, 0);
                 put_wrong(random, &mut line);
                 let refusal = reference_refusal(line.letter, &line.fields);
                 assert_eq!(refusal, STEP_REFUSED, "{line:?}");
-                met.meet_line(&line, refusal);
+                if edition != 1 {
+                    met.meet_line(&line, edition, refusal);
+                }
                 met.meet_numbers(line.letter, &line.fields, edition, refusal);
             }
         }
@@ -232,8 +236,8 @@ mod tests {
     fn other_causes_are_not_met() {
         let mut met = Sovereigns::new();
         let terms = [500, 3, 7, 7, 978, 3, 1, 90, 1, 0, 0, 2];
-        met.meet_line(&Line::new(b'D', &terms), STEP_REFUSED);
-        met.meet_line(&Line::new(b'D', &terms), 1);
+        met.meet_line(&Line::new(b'D', &terms), 2, STEP_REFUSED);
+        met.meet_line(&Line::new(b'D', &terms), 2, 1);
         met.meet_numbers(b'D', &terms, 2, STEP_REFUSED);
         met.meet_record(&Record::new(Terms::from_numbers(&terms), &[], &[]));
         assert!(met.families().iter().all(|cells| cells.met() == 0));

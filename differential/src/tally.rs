@@ -6,6 +6,7 @@ use hadlephoga::{Collateral, Cover, Guarantee, Outcome, Record, Report, Terms};
 
 use crate::answers::{named, Answers};
 use crate::cells::Cells;
+use crate::changes;
 use crate::days;
 use crate::editions::Editions;
 use crate::first_lines::FirstLines;
@@ -44,6 +45,8 @@ pub struct Tally {
     pub haircuts: Haircuts,
     pub parties: Parties,
     pub floors: Cells,
+    /// From an earlier edition to edition 3.
+    pub changes: Cells,
     pub first_lines: FirstLines,
     pub editions: Editions,
     pub sovereigns: Sovereigns,
@@ -66,7 +69,10 @@ impl Tally {
             ),
             haircuts: Haircuts::new(),
             parties: Parties::new(),
-            floors: floors::cells("floors: of whom, class, less to more; or what they change"),
+            floors: floors::cells(
+                "floors: of whom, class, less to more, edition; or what they change",
+            ),
+            changes: changes::cells("tables of 2023: beside which edition, what changes, by what"),
             first_lines: FirstLines::new(),
             editions: Editions::new(),
             sovereigns: Sovereigns::new(),
@@ -80,7 +86,7 @@ impl Tally {
         families.extend([&self.days, &self.days_on_numbers]);
         families.extend(self.haircuts.families());
         families.extend(self.parties.families());
-        families.push(&self.floors);
+        families.extend([&self.floors, &self.changes]);
         families.extend(self.first_lines.families());
         families.extend(self.editions.families());
         families.extend(self.sovereigns.families());
@@ -128,7 +134,7 @@ impl Tally {
         match Line::read(text, edition) {
             Some(line) => {
                 days::meet(&mut self.days, line.letter, &line.fields, refusal);
-                self.sovereigns.meet_line(&line, refusal);
+                self.sovereigns.meet_line(&line, edition, refusal);
             }
             None => self.first_lines.meet_line(edition, text),
         }
@@ -197,10 +203,10 @@ mod tests {
         assert_eq!(tally.days.all(), 7 * 9);
         assert_eq!(tally.days_on_numbers.all(), 7 * 9);
         let families = tally.families();
-        assert_eq!(families.len(), 1 + 8 + 2 + 3 + 3 + 1 + 2 + 2 + 4);
+        assert_eq!(families.len(), 1 + 8 + 2 + 4 + 3 + 2 + 2 + 2 + 4);
         assert_eq!(
             families.iter().map(|cells| cells.all()).sum::<usize>(),
-            3033
+            6328
         );
     }
 }

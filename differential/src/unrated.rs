@@ -39,7 +39,7 @@ mod tests {
         let (mut unrated, mut parties) = (0, 0);
         for number in 0..1000 {
             let random = &mut Random::new(31, number);
-            let mut deal = deal(random, 2);
+            let mut deal = deal(random, number % 3 + 1);
             unrate(random, &mut deal);
             for line in deal.iter().filter(|line| line.letter != b'C') {
                 assert_eq!(reference_refusal(line.letter, &line.fields), 0);

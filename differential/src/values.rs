@@ -127,9 +127,9 @@ fn goods(random: &mut Random, eligible: u64) -> (u64, u64, u64) {
     (goods, step, life)
 }
 
-/// Of a book, or of a deal that is in none. Edition 2 tells more apart.
+/// Of a book, or of a deal that is in none. Edition 3 tells most apart.
 pub fn edition(random: &mut Random) -> u64 {
-    random.weighted(&[(2, 1), (3, 2)])
+    random.weighted(&[(3, 1), (3, 2), (4, 3)])
 }
 
 /// Any that fits the class. It is drawn aside, so that the deals of a seed are

@@ -1,6 +1,6 @@
 /* Compares the layouts, answers the sample book of document 01, builds and reports
- * its first deal, shows a deal that the floor of edition 2 reaches, and what a
- * refused call gives. */
+ * its first deal, shows a deal that the floor of edition 2 reaches, one under the
+ * tables of 2019 and of 2023, and what a refused call gives. */
 #include <inttypes.h>
 #include <stdio.h>
 #include <string.h>
@@ -64,16 +64,16 @@ static struct hadlephoga_deal build_first(void)
   return deal;
 }
 
-static void report_first(const struct hadlephoga_deal *first)
+static void report_all(const struct hadlephoga_deal *deal)
 {
   struct hadlephoga_report report;
-  uint64_t refusal = hadlephoga_report_of(first, &report);
+  uint64_t refusal = hadlephoga_report_of(deal, &report);
 
   printf("report: refusal %" PRIu64 ", E* %" PRIu64 "\n", refusal, report.exposure);
-  for (uint64_t i = 0; i < first->collateral_count; i++)
+  for (uint64_t i = 0; i < deal->collateral_count; i++)
     printf("collateral %" PRIu64 ": value %" PRIu64 ", ground %" PRIu64 "\n", i + 1,
            report.collateral[i].value, report.collateral[i].ground);
-  for (uint64_t i = 0; i < first->guarantee_count; i++)
+  for (uint64_t i = 0; i < deal->guarantee_count; i++)
     printf("guarantee %" PRIu64 ": value %" PRIu64 ", ground %" PRIu64 ", portion %" PRIu64 "\n", i + 1,
            report.guarantees[i].value, report.guarantees[i].ground, report.guarantees[i].portion);
   printf("rest %" PRIu64 ", weighted amount %" PRIu64 "\n", report.rest, report.weighted_amount);
@@ -108,6 +108,49 @@ static void show_floor(uint64_t edition)
          edition, report.guarantees[0].ground, report.guarantees[0].portion, report.rest, report.weighted_amount);
 }
 
+/* A loan to a corporate at step 3, against bank debt at step 2 with a life of two
+ * years and gold, with a guarantee of a bank at step 2. Its kind and interval make a
+ * holding period of ten days, for which the tables stand.
+ *
+ *                              edition 2             edition 3
+ *   bank debt     400,000      less 6%:  376,000     less 4%:  384,000
+ *   gold          100,000      less 15%:  85,000     less 20%:  80,000
+ *   E*          1,000,000 less both:     539,000               536,000
+ *   guarantee     200,000      at 50%:   100,000     at 30%:    60,000
+ *   rest                       at 100%:  339,000     at 75%:   252,000 (of 336,000)
+ *   weighted amount                      439,000               312,000
+ */
+static const char of_2023[] =
+    "CRM\t3\n"
+    "D\t1000000\t3\t3\t0\t978\t2\t1\t1800\t1\t0\t0\n"
+    "C\t400000\t4\t2\t720\t978\t1800\t1800\t1\t1\t1\t0\n"
+    "C\t100000\t9\t0\t0\t978\t1800\t1800\t1\t1\t1\t0\n"
+    "G\t200000\t2\t2\t0\t978\t1800\t1800\t1\t1\t1\n";
+
+static void show_tables(uint64_t edition)
+{
+  struct hadlephoga_terms to_corporate = terms;
+  struct hadlephoga_collateral bank_debt = bonds[0];
+  struct hadlephoga_collateral gold = bonds[0];
+  struct hadlephoga_guarantee of_bank = guarantee;
+  struct hadlephoga_deal deal;
+
+  to_corporate.step = 3;
+  to_corporate.kind = 2;
+  to_corporate.edition = edition;
+  bank_debt.type = 4;
+  bank_debt.step = 2;
+  gold.amount = 100000;
+  gold.type = 9;
+  gold.step = gold.issue_life = 0;
+  of_bank.provider_class = of_bank.step = 2;
+  if (hadlephoga_open_with(&to_corporate, &deal) != 0 || hadlephoga_add_collateral_to(&deal, &bank_debt) != 0 ||
+      hadlephoga_add_collateral_to(&deal, &gold) != 0 || hadlephoga_add_guarantee_to(&deal, &of_bank) != 0)
+    return;
+  printf("edition %" PRIu64 "\n", edition);
+  report_all(&deal);
+}
+
 static void show_refusals(const struct hadlephoga_deal *first)
 {
   struct hadlephoga_terms unknown_class = terms;
@@ -121,7 +164,7 @@ static void show_refusals(const struct hadlephoga_deal *first)
   unknown_class.counterparty_class = 5;
   printf("unknown class: refusal %" PRIu64 "\n", hadlephoga_open_with(&unknown_class, &deal));
   printf("its record: refusal %" PRIu64 "\n", hadlephoga_report_of(&deal, &report));
-  unknown_edition.edition = 3;
+  unknown_edition.edition = 4;
   printf("unknown edition: refusal %" PRIu64 "\n", hadlephoga_open_with(&unknown_edition, &deal));
   printf("short report: refusal %" PRIu64 "\n",
          hadlephoga_report_deal((const uint64_t *)first, HADLEPHOGA_RECORD_LENGTH,
@@ -142,10 +185,13 @@ int main(void)
   }
   answer(sample);
   first = build_first();
-  report_first(&first);
+  report_all(&first);
   answer(floored);
   show_floor(1);
   show_floor(2);
+  answer(of_2023);
+  show_tables(2);
+  show_tables(3);
   show_refusals(&first);
   return 0;
 }

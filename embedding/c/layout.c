@@ -355,7 +355,7 @@ static void meanings(void)
 }
 
 /* Records that nothing accepts: cash has no step, a list no seventeenth place,
- * a sovereign no sovereign, the tables no third edition. */
+ * a sovereign no sovereign; there is no edition 0, nor a fourth. */
 static void records_not_accepted(void)
 {
   struct hadlephoga_deal deal = deal_of_all_grounds(150000);
@@ -370,7 +370,7 @@ static void records_not_accepted(void)
   wrong[2].terms.sovereign_step = 7;
   wrong[3].guarantees[7].sovereign_step = 1;
   wrong[4].terms.edition = 0;
-  wrong[5].terms.edition = 3;
+  wrong[5].terms.edition = 4;
   reported(&deal, &marked);
   for (i = 0; i < sizeof wrong / sizeof wrong[0]; i++) {
     IS(hadlephoga_report_of(&wrong[i], &marked.report), 40);
@@ -467,8 +467,49 @@ static void floors(void)
     IS(weighs(2, 3, step), corporate[step]);
     IS(provides(1, step), 50);
     IS(provides(2, step), bank[step]);
+    /* Under edition 3 an unrated bank weighs no less than any sovereign. */
+    IS(weighs(3, 2, step), 150);
+    IS(weighs(3, 3, step), corporate[step]);
+    IS(provides(3, step), 150);
   }
   IS(weighs(2, 4, 0), 75);
+  IS(weighs(3, 4, 0), 75);
+}
+
+/* The tables of 2023: paper of other issuers at step 1 in each band, then equity and
+ * gold, pledged for a deal that lends what is not eligible. The interval makes a
+ * holding period of ten days, for which the tables stand. */
+static void tables_of_2023(void)
+{
+  static const struct {
+    uint64_t type;
+    uint64_t life;
+    uint64_t value;
+  } pledges[] = {
+      {3, 360, 990000}, {3, 361, 970000}, {4, 1080, 970000}, {4, 1081, 960000}, {3, 1800, 960000}, {3, 1801, 940000},
+      {4, 3600, 940000}, {4, 3601, 880000}, {7, 0, 800000}, {8, 0, 700000}, {9, 0, 800000}, {2, 3601, 960000},
+  };
+  struct hadlephoga_terms terms = repo();
+  size_t i;
+
+  terms.edition = 3;
+  terms.lent_type = 6;
+  for (i = 0; i < sizeof pledges / sizeof pledges[0]; i++) {
+    struct hadlephoga_collateral pledge = paper(1000000);
+    struct hadlephoga_deal deal;
+    struct hadlephoga_report report;
+
+    pledge.type = pledges[i].type;
+    pledge.issue_life = pledges[i].life;
+    pledge.step = pledges[i].life == 0 ? 0 : 1;
+    IS(hadlephoga_open_with(&terms, &deal), 0);
+    IS(hadlephoga_add_collateral_to(&deal, &pledge), 0);
+    IS(hadlephoga_report_of(&deal, &report), 0);
+    IS(report.collateral[0].value, pledges[i].value);
+    /* Raised by 300,000. */
+    IS(report.exposure, 1300000 - pledges[i].value);
+    IS(deal.terms.edition, 3);
+  }
 }
 
 /* Each refused by its own number. */
@@ -484,7 +525,7 @@ static void refused_sovereigns_and_editions(void)
   terms.counterparty_class = 1;
   terms.sovereign_step = 1;
   IS(hadlephoga_open_with(&terms, &refused), 3);
-  terms.edition = 3;
+  terms.edition = 4;
   IS(hadlephoga_open_with(&terms, &refused), 2);
   terms.edition = 0;
   IS(hadlephoga_open_with(&terms, &refused), 2);
@@ -564,7 +605,7 @@ static void longest_days(void)
 
 /* Books */
 
-/* The same two deals under either header. */
+/* Two deals under each header, with the same answers. */
 static const char two_deals[] =
     "CRM\t1\n"
     "D\t1000\t3\t5\t978\t3\t1\t1800\t1\t0\t0\n"
@@ -572,6 +613,10 @@ static const char two_deals[] =
 static const char two_deals_with_sovereigns[] =
     "CRM\t2\n"
     "D\t1000\t3\t5\t6\t978\t3\t1\t1800\t1\t0\t0\n"
+    "D\t500\t2\t7\t1\t840\t1\t1\t30\t1\t0\t0\n";
+static const char two_deals_of_2023[] =
+    "CRM\t3\n"
+    "D\t1000\t2\t0\t1\t978\t3\t1\t1800\t1\t0\t0\n"
     "D\t500\t2\t7\t1\t840\t1\t1\t30\t1\t0\t0\n";
 
 static void answers_of_two_deals(const char *text)
@@ -586,7 +631,7 @@ static void answers_of_two_deals(const char *text)
   IS(answers[0].serial, MARK);
   IS(hadlephoga_answers(book, strlen(text), answers, 3, &deals), 0);
   IS(deals, 2);
-  /* A corporate at step 5 weighs 150. */
+  /* A corporate at step 5 weighs 150, and so does an unrated bank under edition 3. */
   IS(answers[0].serial, 1);
   IS(answers[0].refusal, 0);
   IS(answers[0].exposure, 1000);
@@ -635,10 +680,12 @@ int main(void)
   records_not_accepted();
   built();
   floors();
+  tables_of_2023();
   refused_sovereigns_and_editions();
   longest_days();
   answers_of_two_deals(two_deals);
   answers_of_two_deals(two_deals_with_sovereigns);
+  answers_of_two_deals(two_deals_of_2023);
   longest_book();
   return 0;
 }

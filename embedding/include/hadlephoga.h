@@ -1,6 +1,7 @@
 /*
  * Credit-risk relief of a book of deals, or of one deal: haircuts, recognised
- * values, covered portions and weighted amounts under CRE20 and CRE22 (2019).
+ * values, covered portions and weighted amounts under CRE20 and CRE22, with the
+ * tables of 2019 or of 2023.
  *
  * Link with libhadlephoga.a, and compare HADLEPHOGA_LAYOUT with
  * hadlephoga_layout() before anything else: where they differ, header and
@@ -30,7 +31,7 @@ extern "C" {
  *      terms 12, guarantee 10, record 350. Refusal 2 now falls on an unknown
  *      edition too, 3 on a wrong sovereign's step. A program built for layout 1
  *      is refused, by 11, 13 or 40, wherever it passes terms, a guarantee or a
- *      record.
+ *      record. Edition 3 came with this layout: it was refused before.
  *
  * The rule of change. The layout is how many numbers there are of terms, of an
  * item, of a record and of a report, their order and what each of them means; the
@@ -70,7 +71,7 @@ uint64_t hadlephoga_layout(void);
  * Answers a book. Returns 0, or the refusal of the whole book, the first met:
  *
  *   10  longer than 65,536 bytes
- *    9  the first line is no header: C, R, M, tab, the edition (1 or 2), line feed
+ *    9  the first line is no header: C, R, M, tab, the edition (1 to 3), line feed
  *   12  there is a second line, and it does not begin with D and a tab
  *   13  fewer than four numbers in results for each deal
  *
@@ -150,11 +151,14 @@ struct hadlephoga_answer {
  * its ISO 4217 number, 1 to 999; a term or life 1 to 100,000 days, an item's
  * residual term not above its original one; a condition 1 met or 0 not met. */
 
-/* The edition is what the header of a book says, 1 or 2. Under edition 2 an
- * unrated bank or corporate weighs at least what its sovereign of incorporation
+/* The edition is what the header of a book says, 1, 2 or 3. Under editions 2 and 3
+ * an unrated bank or corporate weighs at least what its sovereign of incorporation
  * weighs, whose step is the sovereign's step: 0 for the class sovereign and for
- * retail, under either edition. Under edition 1 it has no effect, and the lines
- * of a book leave it out, so that it reads 0. */
+ * retail, under every edition. Under edition 1 it has no effect, and the lines
+ * of a book leave it out, so that it reads 0. Editions 1 and 2 have the tables of
+ * 2019, edition 3 those of 2023: other haircuts of other issuers' and bank debt, of
+ * equity, of gold and of lent goods that are not eligible; other weights of banks at
+ * step 2 and unrated, and of class 3 at step 3. */
 
 /* Goods: 1 cash, 2 sovereign debt, 3 other issuers' debt, 4 bank debt, 5
  * securitisation, 6 re-securitisation, 7 main index equity, 8 other listed
@@ -202,7 +206,7 @@ struct hadlephoga_terms {
   uint64_t lent_type; /* a loan lends cash: 1, 0, 0 */
   uint64_t lent_step;
   uint64_t lent_issue_life;
-  uint64_t edition; /* 1, or 2 with the floor of the sovereign's weight */
+  uint64_t edition; /* 1; 2 with the floor of the sovereign's weight; 3 with the tables of 2023 too */
 };
 
 /* A deal's record. Places at or past a count are not looked at. */

@@ -1,5 +1,6 @@
 //! Answers the sample book of document 01, builds and reports a deal of its own,
-//! and reports one under both editions.
+//! and reports one without and with the floor of edition 2, and one by the tables of
+//! 2019 and of 2023.
 
 use hadlephoga::{
     add_collateral, add_guarantee, answer_book, open, report, Collateral, Guarantee, Outcome,
@@ -23,6 +24,14 @@ fn main() -> Result<(), Refusal> {
             Outcome::Valued(value) => println!("edition {edition}: {weighted}, {value} guaranteed"),
             Outcome::LeftOut(ground) => println!("edition {edition}: {weighted}, {ground}"),
         }
+    }
+    for edition in [2, 3] {
+        let report = by_tables(edition)?;
+        let [debt, gold] = [0, 1].map(|place| report.collateral[place].value());
+        println!(
+            "edition {edition}: bank debt {debt}, gold {gold}, E* {}, rest {}, weighted amount {}",
+            report.exposure, report.rest, report.weighted_amount
+        );
     }
     Ok(())
 }
@@ -62,8 +71,9 @@ fn loan() -> Terms {
     }
 }
 
-fn report_loan() -> Result<(), Refusal> {
-    let bond = Collateral {
+/// Of a sovereign at step 1, with a life of two years.
+fn bond() -> Collateral {
+    Collateral {
         amount: 400_000,
         goods: 2,
         step: 1,
@@ -75,7 +85,11 @@ fn report_loan() -> Result<(), Refusal> {
         unrelated: 1,
         unreflected: 1,
         listed: 0,
-    };
+    }
+}
+
+fn report_loan() -> Result<(), Refusal> {
+    let bond = bond();
     let short = Collateral {
         residual_term: 90,
         ..bond
@@ -111,9 +125,19 @@ fn floored(edition: u64) -> Result<Report, Refusal> {
         ..loan()
     };
     let of_bank = Guarantee {
-        amount: 400_000,
-        class: 2,
         sovereign_step: 3,
+        ..of_bank(400_000)
+    };
+    let mut deal = open(&to_bank)?;
+    add_guarantee(&mut deal, &of_bank)?;
+    report(&deal)
+}
+
+/// Of an unrated bank, for 1,800 days.
+fn of_bank(amount: u64) -> Guarantee {
+    Guarantee {
+        amount,
+        class: 2,
         currency: 978,
         residual_term: 1800,
         original_term: 1800,
@@ -121,8 +145,43 @@ fn floored(edition: u64) -> Result<Report, Refusal> {
         direct: 1,
         unreflected: 1,
         ..Guarantee::default()
+    }
+}
+
+/// A loan to a corporate at step 3, against bank debt at step 2 and gold, with the
+/// guarantee of a bank at step 2. Its kind and interval make a holding period of
+/// ten days, for which the tables stand.
+///
+/// Edition 2: 400,000 less 6% is 376,000, 100,000 less 15% is 85,000; of E*
+/// 539,000 the bank covers 200,000 at 50%, and 339,000 weigh 100%: 439,000.
+/// Edition 3: 400,000 less 4% is 384,000, 100,000 less 20% is 80,000; of E*
+/// 536,000 the bank covers 200,000 at 30%, and 336,000 weigh 75%: 312,000.
+fn by_tables(edition: u64) -> Result<Report, Refusal> {
+    let to_corporate = Terms {
+        step: 3,
+        kind: 2,
+        edition,
+        ..loan()
     };
-    let mut deal = open(&to_bank)?;
+    let bank_debt = Collateral {
+        goods: 4,
+        step: 2,
+        ..bond()
+    };
+    let gold = Collateral {
+        amount: 100_000,
+        goods: 9,
+        step: 0,
+        issue_life: 0,
+        ..bond()
+    };
+    let of_bank = Guarantee {
+        step: 2,
+        ..of_bank(200_000)
+    };
+    let mut deal = open(&to_corporate)?;
+    add_collateral(&mut deal, &bank_debt)?;
+    add_collateral(&mut deal, &gold)?;
     add_guarantee(&mut deal, &of_bank)?;
     report(&deal)
 }

@@ -23,6 +23,15 @@
 //! assert_eq!(hadlephoga::answer_book(book, &mut results), Ok(1));
 //! assert_eq!(results, [1, 0, 900, 1350]);
 //! ```
+//!
+//! By the tables of 2023, which edition 3 has, it weighs 150 by itself:
+//!
+//! ```
+//! let book = b"CRM\t3\nD\t900\t2\t0\t1\t978\t3\t1\t90\t1\t0\t0\n";
+//! let mut results = [0; 4];
+//! assert_eq!(hadlephoga::answer_book(book, &mut results), Ok(1));
+//! assert_eq!(results, [1, 0, 900, 1350]);
+//! ```
 
 mod calls;
 mod layout;

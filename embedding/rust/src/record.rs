@@ -28,8 +28,8 @@ numbers! {
         lent_type,
         lent_step,
         lent_issue_life,
-        /// What the header of a book says: 1, or 2 with the floor of the
-        /// sovereign's weight.
+        /// What the header of a book says: 1; 2 with the floor of the sovereign's
+        /// weight; 3 with that floor and the tables of 2023.
         edition,
     }
 }

@@ -36,22 +36,23 @@ fn header() {
         b"CRM\t1",
         b"CRM\t1\r\n",
         b"CRM\t0\n",
-        b"CRM\t3\n",
-        b"CRM\t02\n",
+        b"CRM\t4\n",
+        b"CRM\t03\n",
         b"CRM\t12\n",
         b"CRM\t\n",
         b"CRM\n",
         b"CRM\t2\t\n",
-        b"CRM\t2\tS\n",
-        b"CRM\t2",
+        b"CRM\t3\tS\n",
+        b"CRM\t3",
         b"CRM 1\n",
         b"\n",
         &SAMPLE[6..],
     ] {
         assert_eq!(refused(book, 12), 9);
     }
-    assert_eq!(answer_book(b"CRM\t1\n", &mut []), Ok(0));
-    assert_eq!(answer_book(b"CRM\t2\n", &mut []), Ok(0));
+    for book in [b"CRM\t1\n", b"CRM\t2\n", b"CRM\t3\n"] {
+        assert_eq!(answer_book(book, &mut []), Ok(0));
+    }
 }
 
 #[test]

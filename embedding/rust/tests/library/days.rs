@@ -292,7 +292,7 @@ fn books() {
     for (line, fields) in fields {
         for field in fields {
             let answered = |days| {
-                [1, 2].map(|edition| {
+                [1, 2, 3].map(|edition| {
                     let mut results = [0; 4];
                     let book = book(edition, line, *field, days);
                     assert_eq!(answer_book(&book, &mut results), Ok(1));
@@ -301,10 +301,10 @@ fn books() {
             };
             for days in EDGES {
                 // 1,040,000 - 48,000, not above the amount, of which 10,000 weigh 0.
-                assert_eq!(answered(days), [[1, 0, 992_000, 982_000]; 2], "{days}");
+                assert_eq!(answered(days), [[1, 0, 992_000, 982_000]; 3], "{days}");
             }
             for days in [LONGEST + 1, (1 << 17) + 1800, (1 << 32) + 1800] {
-                assert_eq!(answered(days), [[1, 5, line as u64, 0]; 2], "{days}");
+                assert_eq!(answered(days), [[1, 5, line as u64, 0]; 3], "{days}");
             }
         }
     }

@@ -1,4 +1,4 @@
-//! Deals and items as lines of a book, under either header.
+//! Deals and items as lines of a book, under each header.
 
 use hadlephoga::{Collateral, Guarantee, Terms};
 

@@ -11,4 +11,5 @@ mod lines;
 mod records;
 mod sample;
 mod sovereigns;
+mod tables_2023;
 mod threads;

@@ -211,7 +211,7 @@ fn terms_just_outside_their_ranges() {
         (9, 1),
         (10, 1),
         (11, 0),
-        (11, 3),
+        (11, 4),
     ] {
         let terms = with_term(place, number);
         assert!(is_refused(&Record::new(terms, &[], &[])), "{terms:?}");

@@ -1,5 +1,5 @@
-//! The country's weight: the floor of edition 2, and what is refused of editions
-//! and sovereign's steps. Weights are those of the papers' tables.
+//! The country's weight: the floor of editions 2 and 3, and what is refused of
+//! editions and sovereign's steps. Weights are those of the papers' tables.
 
 use crate::lines::{guarantee_line, headed, terms_line};
 use crate::sample::{CASH, GUARANTEE, LOAN};
@@ -15,7 +15,7 @@ const BANK: [u64; 7] = [100, 50, 50, 50, 100, 100, 150];
 const CORPORATE: [u64; 7] = [100, 100, 100, 100, 100, 100, 150];
 /// Of rated parties from step 1 to 6: bank, corporate or other entity.
 const RATED: [[u64; 6]; 2] = [[20, 50, 50, 100, 100, 150], [20, 50, 100, 100, 150, 150]];
-const UNKNOWN: [u64; 8] = [0, 3, 4, 255, 257, 258, (1 << 32) + 2, u64::MAX];
+const UNKNOWN: [u64; 8] = [0, 4, 5, 256, 257, 259, (1 << 32) + 3, u64::MAX];
 
 fn reported(terms: Terms, guarantees: &[Guarantee]) -> Report {
     report(&Record::new(terms, &[], guarantees)).expect("an accepted deal")
@@ -60,6 +60,9 @@ fn unrated_parties() {
         assert_eq!(provides(2, 2, 0, step), due[0]);
         assert_eq!([2, 3].map(|class| weighs(1, class, 0, step)), [50, 100]);
         assert_eq!(provides(1, 2, 0, step), 50);
+        // Under edition 3 an unrated bank weighs no less than any sovereign.
+        assert_eq!([2, 3].map(|class| weighs(3, class, 0, step)), [150, due[1]]);
+        assert_eq!(provides(3, 2, 0, step), 150);
     }
 }
 
@@ -75,7 +78,7 @@ fn rated_parties_have_no_floor() {
             }
         }
     }
-    for edition in [1, 2] {
+    for edition in [1, 2, 3] {
         assert_eq!(weighs(edition, 1, 0, 0), 100);
         assert_eq!(weighs(edition, 4, 0, 0), 75);
     }
@@ -85,7 +88,7 @@ fn rated_parties_have_no_floor() {
 #[test]
 fn unrated_other_entities() {
     for step in STEPS {
-        for edition in [1, 2] {
+        for edition in [1, 2, 3] {
             let report = reported(loan(edition, 3, 6, 0), &[guarantee(3, 0, step)]);
             assert_eq!(report.guarantees[0].outcome, LeftOut(Ground(28)));
         }
@@ -136,7 +139,7 @@ fn cover_in_rising_order_of_weight() {
 fn wrong_steps_are_refused() {
     let mut record = Record::new(loan(2, 2, 0, 0), &[], &[]);
     let before = record.clone();
-    for edition in [1, 2] {
+    for edition in [1, 2, 3] {
         for wrong in [7, 8, 256, 257, u64::MAX] {
             for class in 1..=4 {
                 let terms = loan(edition, class, 0, wrong);
@@ -157,6 +160,7 @@ fn wrong_steps_are_refused() {
             assert_eq!(add_guarantee(&mut record, &item), Err(Refusal(3)));
         }
     }
+    record.terms.edition = 2;
     assert_eq!(record, before);
 }
 
@@ -207,15 +211,16 @@ fn answered(book: &[u8]) -> [u64; 4] {
     results
 }
 
-/// The lines of one header are malformed under the other.
+/// Lines without the sovereign's step are malformed under headers 2 and 3, lines
+/// with it under header 1.
 #[test]
 fn books() {
     for step in STEPS {
         let item = guarantee(2, 0, step);
-        for edition in [1, 2] {
+        for (edition, other) in [(1, 2), (1, 3), (2, 1), (3, 1)] {
             let terms = loan(edition, 3, 6, step);
-            let other = Terms {
-                edition: 3 - edition,
+            let others = Terms {
+                edition: other,
                 ..terms
             };
             let book = |terms, item| headed(edition, &[terms, item]);
@@ -225,16 +230,18 @@ fn books() {
                 answered(&book(own.0.clone(), own.1.clone())),
                 [1, 0, 100, due]
             );
-            let other = (terms_line(&other), guarantee_line(3 - edition, &item));
-            assert_eq!(answered(&book(other.0, own.1)), [1, 11, 2, 0]);
-            assert_eq!(answered(&book(own.0, other.1)), [1, 11, 3, 0]);
+            let others = (terms_line(&others), guarantee_line(other, &item));
+            assert_eq!(answered(&book(others.0, own.1)), [1, 11, 2, 0]);
+            assert_eq!(answered(&book(own.0, others.1)), [1, 11, 3, 0]);
         }
     }
-    let wrong = headed(2, &[terms_line(&loan(2, 4, 0, 1))]);
-    assert_eq!(answered(&wrong), [1, 3, 2, 0]);
-    let wrong = [
-        terms_line(&loan(2, 3, 0, 0)),
-        guarantee_line(2, &guarantee(1, 1, 1)),
-    ];
-    assert_eq!(answered(&headed(2, &wrong)), [1, 3, 3, 0]);
+    for edition in [2, 3] {
+        let wrong = headed(edition, &[terms_line(&loan(edition, 4, 0, 1))]);
+        assert_eq!(answered(&wrong), [1, 3, 2, 0]);
+        let wrong = [
+            terms_line(&loan(edition, 3, 0, 0)),
+            guarantee_line(edition, &guarantee(1, 1, 1)),
+        ];
+        assert_eq!(answered(&headed(edition, &wrong)), [1, 3, 3, 0]);
+    }
 }
