@@ -19,9 +19,7 @@ use Rattle.text.specs.Text.{firstLine, sameBytes, startsWith}
 use Rattle.text.proofs.Equal.{same-equal}
 use Rattle.deal.specs.Assets.{goodsKnown}
 use Rattle.deal.specs.Checks.{fieldTests}
-use Rattle.deal.specs.Collateral.{collateralTests}
 use Rattle.deal.specs.Editions.{editionKnown, tableFor}
-use Rattle.deal.specs.Guarantees.{guaranteeTests}
 use Rattle.deal.specs.Parties.{counterpartyKnown}
 use Rattle.deal.specs.Terms.{kindKnown, termsTests}
 use Rattle.deal.specs.declared.terms.Terms.{Terms}
@@ -45,8 +43,9 @@ use Rattle.earlier.specs.Before2023.{before2023, editionBefore2023, head
 use Rattle.earlier.specs.Books.{bookRefusalBy, bookReplyBy, dealAnswerBy, editionBy, lineOpenedBy, lineRefusalBy, openingRefusalBy, printedBy, reportedBy, resultsBy, withLineBy}
 use Rattle.earlier.specs.Deals.{acceptedBy, addCollateralRefusalBy, addGuaranteeRefusalBy, collateralRefusalBy, dealOpenedBy, guaranteeRefusalBy, reportBy, reportRefusalBy, termsRefusalBy, withCollateralBy, withGuaranteeBy}
 use Rattle.earlier.specs.Rules.{inForce}
-use Rattle.earlier.proofs.Accepted.{Apart, parts}
+use Rattle.earlier.proofs.Accepted.{parts}
 use Rattle.earlier.proofs.Alike.{Alike, deal-same as alike-deal, printed-same as alike-printed, reply-same as alike-reply, results-same as alike-results, wrong-by-9}
+use Rattle.earlier.proofs.Days.{apart-now}
 use Rattle.earlier.proofs.Lines.{Says, said-edition}
 
 -- another edition than the third
@@ -185,13 +184,9 @@ opened-line edition n (CollateralLine c) s = refl
 opened-line edition n (GuaranteeLine g) s = refl
 opened-line edition n Malformed s = refl
 
-apart : Apart inForce
-unfolding collateralTests guaranteeTests
-apart = record { collateral = λ full c. refl; guarantees = λ full g. refl }
-
 alike : (edition : ℕ) → Other edition → Alike inForce before2023 edition
 alike edition n = record {
-  apart = apart;
+  apart = apart-now;
   line = λ line. refl;
   says = said-edition edition;
   opening = λ line. opening-line edition n (lineOf edition line) (said-edition edition line);

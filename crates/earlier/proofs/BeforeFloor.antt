@@ -50,8 +50,9 @@ use Rattle.earlier.specs.BeforeFloor.{beforeFloor, guaranteeBefore, guar
 use Rattle.earlier.specs.Books.{bookRefusalBy, bookReplyBy, dealAnswerBy, editionBy, lineOpenedBy, lineRefusalBy, openingRefusalBy, printedBy, reportedBy, resultsBy, withLineBy}
 use Rattle.earlier.specs.Deals.{acceptedBy, addCollateralRefusalBy, addGuaranteeRefusalBy, collateralRefusalBy, dealOpenedBy, guaranteeRefusalBy, reportBy, reportRefusalBy, termsRefusalBy, withCollateralBy, withGuaranteeBy}
 use Rattle.earlier.specs.Rules.{inForce}
-use Rattle.earlier.proofs.Accepted.{Apart, list-more, list-passing, list-short, parts, same-truth, unrefused, whole}
+use Rattle.earlier.proofs.Accepted.{list-more, list-passing, list-short, parts, same-truth, unrefused, whole}
 use Rattle.earlier.proofs.Alike.{Alike, deal-same as alike-deal, printed-same as alike-printed, reply-same as alike-reply, results-same as alike-results, wrong-by-9}
+use Rattle.earlier.proofs.Days.{apart-now}
 use Rattle.earlier.proofs.Lines.{Says, read-says, said-edition}
 
 -- FIELDS: what is new is a test of the edition, and one of each party's sovereign's step
@@ -267,15 +268,11 @@ with-line d a (GuaranteeLine g) o = with-guarantee-same d a g (zero-allowed _ o)
 with-line d a (DealLine t) o = refl
 with-line d a Malformed o = refl
 
-apart : Apart inForce
-unfolding collateralTests guaranteeTests
-apart = record { collateral = λ full c. refl; guarantees = λ full g. refl }
-
 -- A DEAL OF A BOOK HEADED 1
 
 alike : Alike inForce beforeFloor 1
 alike = record {
-  apart = apart;
+  apart = apart-now;
   line = line-same;
   says = λ line. subst (Says 1) (line-same line) (said-edition 1 line);
   opening = λ line. opening-line (lineBefore line) (line-old line);

@@ -1,7 +1,7 @@
 -- A higher limit of days in opening, adding and reporting: what was accepted stays so, with the same report. Assumes nothing.
 use Prim.Native.Nat.{ℕ, _≤_}
 use mathlib.Core.Logic.{inl, inr}
-use mathlib.Core.Path.{_≡_, refl, sym, _∙_}
+use mathlib.Core.Path.{_≡_, refl, sym, subst, _∙_}
 use mathlib.Core.Bool.{Bool, true, false, _&&_}
 use mathlib.Core.List.{[]}
 use lib.Dec.{leb, eqb}
@@ -14,6 +14,7 @@ use Rattle.base.proofs.Every.{both}
 use Rattle.base.proofs.FirstMet.{none-exactly}
 use Rattle.base.proofs.Tests.{and-true}
 use Rattle.deal.specs.Lists.{listLimit, listTests}
+use Rattle.deal.specs.Ranges.{daysLimit}
 use Rattle.deal.specs.Views.{viewOf}
 use Rattle.deal.specs.declared.terms.Terms.{Terms}
 use Rattle.deal.specs.declared.collateral.Collateral.{Collateral}
@@ -21,13 +22,17 @@ use Rattle.deal.specs.declared.guarantee.Guarantee.{Guarantee}
 use Rattle.deal.specs.declared.deal.Deal.{Deal}
 use Rattle.earlier.specs.Days.{acceptedUpTo, addCollateralRefusalUpTo, addGuaranteeRefusalUpTo, collateralDays, dealNoneAbove, guaranteeDays, noneAbove, openedUpTo, reportRefusalUpTo, reportUpTo, termsDays, termsRefusalUpTo, withCollateralUpTo, withGuaranteeUpTo}
 use Rattle.earlier.specs.Deals.{addCollateralRefusalBy, addGuaranteeRefusalBy, collateralRefusalBy, dealOpenedBy, guaranteeRefusalBy, reportBy, reportRefusalBy, termsRefusalBy, withCollateralBy, withGuaranteeBy}
-use Rattle.earlier.specs.Rules.{upTo}
+use Rattle.earlier.specs.Rules.{inForce, upTo}
 use Rattle.earlier.proofs.Accepted.{Apart, added-tests, list-more, list-passing, list-short, parts, same-truth, unrefused, whole}
 use Rattle.earlier.proofs.Fields.{Kept, collateral-days, collateral-stays, guarantee-days, guarantee-stays, terms-days, terms-stay}
+use Rattle.earlier.proofs.Now.{limit-in-force}
 
 -- each number of the tests stands there once, whatever the limit
 pub apart : (limit : ℕ) → Apart (upTo limit)
 apart limit = record { collateral = λ full c. refl; guarantees = λ full g. refl }
+
+pub apart-now : Apart inForce
+apart-now = subst Apart limit-in-force (apart daysLimit)
 
 -- an unrefused call's figure is no 5
 pub zero-kept : {refusal : ℕ} {none : Bool} → refusal ≡ 0 → Kept refusal none

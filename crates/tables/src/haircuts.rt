@@ -1,4 +1,4 @@
-// The standard supervisory haircuts, before scaling to a holding period.
+// The standard supervisory haircuts of 2019, before scaling to a holding period.
 ghost use mathlib.Core.Path.{_≡_};
 ghost use Prim.Native.Nat.{_<_};
 ghost use Rattle.tables.specs.Haircuts.{rowOf, bandOf, issuerColumn, debtHaircut, haircut as haircutOf, lentHaircut};

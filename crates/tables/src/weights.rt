@@ -1,4 +1,4 @@
-// Risk weights in percent, with the sovereign floor of the editions that have it.
+// The risk weights of 2019 in percent, with the sovereign floor of the editions that have it.
 ghost use mathlib.Core.Path.{_≡_};
 ghost use Prim.Native.Nat.{_≤_, max};
 ghost use Rattle.tables.specs.Classes.{sovereign};
