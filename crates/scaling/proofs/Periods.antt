@@ -26,3 +26,8 @@ guarantee-bound interval = omega arith
 pub periods : (map (λ k. holdingPeriod k 1) (1 ∷ 2 ∷ 3 ∷ []) ≡ 5 ∷ 10 ∷ 20 ∷ []) × (map guaranteePeriod (1 ∷ 11 ∷ 250 ∷ []) ≡ 10 ∷ 20 ∷ 259 ∷ [])
 unfolding holdingPeriod minimumPeriod guaranteePeriod if_then_else_
 periods = (refl, refl)
+
+-- longer intervals, day for day
+pub longer-periods : map (λ i. map (λ k. holdingPeriod k i) (1 ∷ 2 ∷ 3 ∷ [])) (2 ∷ 10 ∷ 250 ∷ []) ≡ (6 ∷ 11 ∷ 21 ∷ []) ∷ (14 ∷ 19 ∷ 29 ∷ []) ∷ (254 ∷ 259 ∷ 269 ∷ []) ∷ []
+unfolding holdingPeriod minimumPeriod if_then_else_
+longer-periods = refl

@@ -1,3 +1,4 @@
 pub mod Period
 pub mod Scaling
+pub mod Stored
 pub mod TimeFactor

@@ -8,7 +8,7 @@ use Rattle.tables.specs.Kinds.{repoStyle, otherCapitalMarket}
 unfoldable pub minimumPeriod : ℕ → ℕ
 minimumPeriod kind = if eqb kind repoStyle then 5 else if eqb kind otherCapitalMarket then 10 else 20
 
--- "Let n be the interval plus that minimum less 1": of a deal's collateral and of its goods lent. CRE22.64, N_R + (T_M − 1)
+-- "Let n be the interval plus that minimum less 1": of a deal's collateral, its currency haircut too, and of its goods lent. CRE22.64, N_R + (T_M − 1)
 unfoldable pub holdingPeriod : ℕ → ℕ → ℕ
 holdingPeriod kind interval = interval + minimumPeriod kind - 1
 

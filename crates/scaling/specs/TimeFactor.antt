@@ -1,4 +1,4 @@
--- The square-root-of-time factor of a holding period, from which code scales haircuts. CRE22.64
+-- The square-root-of-time factor of a holding period: where no figure is stored, code looks for the scaled haircut from there. CRE22.64
 use Prim.Native.Nat.{_≤_}
 use mathlib.Core.Path.{_≡_}
 use Rattle.scaling.specs.Scaling.{scaled}

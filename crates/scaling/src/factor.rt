@@ -1,10 +1,17 @@
-// Haircuts scaled to one holding period. The whole is scaled once, by bisection; it tells within a unit or two where any other scaled
-// haircut lies.
+// Haircuts scaled to one holding period. For the periods of daily revaluation they are stored. For any other the whole is scaled once, by
+// bisection; it tells within a unit or two where any other scaled haircut lies.
+ghost use mathlib.Core.Bool.{false, _&&_};
 ghost use mathlib.Core.Path.{_≡_};
 ghost use Prim.Native.Nat.{_≤_};
 ghost use Rattle.scaling.specs.TimeFactor.{IsTimeFactor};
 ghost use Rattle.scaling.specs.Scaling.{scaled};
+ghost use Rattle.scaling.specs.Stored.{isDaily, isStored};
 use crate::scaling::scaled_haircut;
+use crate::stored::Stored;
+use crate::stored::is_daily;
+use crate::stored::over;
+use crate::stored::stored_line;
+use crate::stored::stored_whole;
 
 const WHOLE: u64 = 1_000_000;
 
@@ -19,6 +26,10 @@ impl TimeFactor {
         requires { ⌜ period ≤ 1000 ⌝ }
         ensures { λ r. ⌜ (r .period ≡ period) × IsTimeFactor r ⌝ }
     {
+        if is_daily(period) {
+            let millionths = stored_whole(period);
+            return TimeFactor { period, millionths };
+        }
         let millionths = scaled_haircut(WHOLE, period);
         TimeFactor { period, millionths }
     }
@@ -37,6 +48,20 @@ impl TimeFactor {
     // A haircut scaled to the period.
     pub fn scale(self, haircut: u64) -> u64
         requires { ⌜ (haircut ≤ 1000000) × IsTimeFactor self ⌝ }
+        ensures { λ r. ⌜ r ≡ scaled haircut (self .period) ⌝ }
+    {
+        if is_daily(self.period) {
+            let stored = stored_line(haircut);
+            if let Stored::Figures(five, ten, twenty) = stored {
+                return over(self.period, five, ten, twenty);
+            }
+        }
+        self.work_out(haircut)
+    }
+
+    // What is stored is not worked out.
+    fn work_out(self, haircut: u64) -> u64
+        requires { ⌜ (haircut ≤ 1000000) × (IsTimeFactor self × ((isDaily (self .period) && isStored haircut) ≡ false)) ⌝ }
         ensures { λ r. ⌜ r ≡ scaled haircut (self .period) ⌝ }
     {
         let target = haircut * haircut * self.period;

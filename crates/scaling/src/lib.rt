@@ -2,3 +2,4 @@
 pub mod factor;
 pub mod period;
 pub mod scaling;
+pub mod stored;

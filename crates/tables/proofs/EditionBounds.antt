@@ -1,25 +1,21 @@
 -- Bounds of the figures of every edition: what the sums and products above them need to fit. Assumes nothing.
 use Prim.Native.Nat.{ℕ, _≤_}
-use native.Mathlib.Omega.{arith}
-use lib.Dec.{eqb}
+use mathlib.Core.Path.{refl}
+use lib.Dec.{eqb, leb}
+use borrow.Author.Tests.{leb-true}
 use Rattle.base.proofs.Choice.{either}
 use Rattle.tables.specs.Table.{Table, tableOf}
 use Rattle.tables.specs.Version2023.{edition2023}
-use Rattle.tables.proofs.Bounds.{counterparty-bound, haircut-bound, lent-bound, provider-bound}
-use Rattle.tables.proofs.Bounds2023.{counterparty-bound-2023, haircut-bound-2023, lent-bound-2023, provider-bound-2023}
+use Rattle.tables.proofs.Bounds.{counterparty-bound, provider-bound}
+use Rattle.tables.proofs.Bounds2023.{counterparty-bound-2023, provider-bound-2023}
+use Rattle.tables.proofs.EveryHaircut.{every-haircut, every-lent-haircut}
 
 -- haircuts to 30 percent
 pub haircut-low : (edition goods step life : ℕ) → tableOf edition .haircut goods step life ≤ 300000
-unfolding tableOf
-haircut-low edition goods step life =
-    either (λ (t : Table). t .haircut goods step life ≤ 300000) (eqb edition edition2023)
-    (λ e. haircut-bound-2023 goods step life) (λ e. omega (arith, haircut-bound goods step life))
+haircut-low edition goods step life = leb-true _ _ (every-haircut (λ h. leb h 300000) refl edition goods step life)
 
 pub lent-low : (edition goods step life : ℕ) → tableOf edition .lentHaircut goods step life ≤ 300000
-unfolding tableOf
-lent-low edition goods step life =
-    either (λ (t : Table). t .lentHaircut goods step life ≤ 300000) (eqb edition edition2023)
-    (λ e. lent-bound-2023 goods step life) (λ e. omega (arith, lent-bound goods step life))
+lent-low edition goods step life = leb-true _ _ (every-lent-haircut (λ h. leb h 300000) refl edition goods step life)
 
 -- weights to 150 percent
 pub provider-low : (edition class step sovereignStep : ℕ) → class ≤ 3 → step ≤ 6 → sovereignStep ≤ 6 → tableOf edition .providerWeight class step sovereignStep ≤ 150

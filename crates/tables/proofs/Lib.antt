@@ -11,5 +11,6 @@ pub mod Laws
 pub mod Versions
 pub mod Bounds
 pub mod Bounds2023
+pub mod EveryHaircut
 pub mod EditionBounds
 pub mod Cells2023

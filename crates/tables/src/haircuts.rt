@@ -9,13 +9,14 @@ use crate::goods::MAIN_INDEX_EQUITY;
 use crate::goods::OTHER_LISTED_EQUITY;
 use crate::goods::SECURITISATION;
 use crate::goods::SOVEREIGN_DEBT;
+use crate::widths::wide_haircut;
 
 // Where an item and the deal are in different currencies.
 pub const CURRENCY: u64 = 80_000;
 
 // Debt, by row of steps (1; 2 and 3; 4), band of residual life, and column of issuers: sovereign, other, securitisation.
 // At step 4 sovereign debt alone is eligible.
-const DEBT: [[[u64; 3]; 3]; 3] = [
+const DEBT: [[[u32; 3]; 3]; 3] = [
     [
         [5_000, 10_000, 20_000],
         [20_000, 40_000, 80_000],
@@ -81,7 +82,8 @@ fn debt_haircut(goods: u64, step: u64, life: u64) -> u64
     let r = row(step);
     let b = band(life);
     let c = column(goods);
-    DEBT[r][b][c]
+    let figure = DEBT[r][b][c];
+    wide_haircut(figure)
 }
 
 // The haircut of eligible collateral.

@@ -8,3 +8,4 @@ pub mod haircuts;
 pub mod kinds;
 pub mod version_2023;
 pub mod weights;
+pub mod widths;

@@ -14,13 +14,15 @@ use crate::weights::RETAIL_WEIGHT;
 use crate::weights::at_least_sovereign;
 use crate::weights::floor_for_counterparty;
 use crate::weights::floor_for_provider;
+use crate::widths::wide_haircut;
+use crate::widths::wide_weight;
 
 // The number of this version in a book's header.
 pub const EDITION_2023: u64 = 3;
 
 // Debt, by row of steps (1; 2 and 3; 4), band of residual life, and column of issuers: sovereign, other, securitisation.
 // At step 4 sovereign debt alone is eligible.
-const DEBT: [[[u64; 3]; 5]; 3] = [
+const DEBT: [[[u32; 3]; 5]; 3] = [
     [
         [5_000, 10_000, 20_000],
         [20_000, 30_000, 80_000],
@@ -51,7 +53,7 @@ const OTHER_LISTED: u64 = 300_000;
 const LENT_NOT_ELIGIBLE: u64 = 300_000;
 
 // By class (sovereign; bank; corporate and other entity) and step, the unrated step 0 first.
-const WEIGHTS: [[u64; 7]; 3] = [
+const WEIGHTS: [[u8; 7]; 3] = [
     [100, 0, 20, 50, 100, 100, 150],
     [150, 20, 30, 50, 100, 100, 150],
     [100, 20, 50, 75, 100, 150, 150],
@@ -82,7 +84,8 @@ fn debt_haircut(goods: u64, step: u64, life: u64) -> u64
     let r = row(step);
     let b = band(life);
     let c = column(goods);
-    DEBT[r][b][c]
+    let figure = DEBT[r][b][c];
+    wide_haircut(figure)
 }
 
 // The haircut of eligible collateral.
@@ -118,7 +121,8 @@ fn table_weight(class: u64, step: u64) -> u64
     requires { ⌜ (1 ≤ class) × ((class ≤ 3) × (step ≤ 6)) ⌝ }
     ensures { λ r. ⌜ r ≡ tableWeight2023 class step ⌝ }
 {
-    WEIGHTS[(class - 1) as usize][step as usize]
+    let weight = WEIGHTS[(class - 1) as usize][step as usize];
+    wide_weight(weight)
 }
 
 // A counterparty's, by its own step.

@@ -7,11 +7,12 @@ use crate::classes::BANK;
 use crate::classes::CORPORATE;
 use crate::classes::RETAIL;
 use crate::classes::SOVEREIGN;
+use crate::widths::wide_weight;
 
 pub const RETAIL_WEIGHT: u64 = 75;
 
 // By class (sovereign; bank; corporate and other entity) and step, the unrated step 0 first.
-const WEIGHTS: [[u64; 7]; 3] = [
+const WEIGHTS: [[u8; 7]; 3] = [
     [100, 0, 20, 50, 100, 100, 150],
     [50, 20, 50, 50, 100, 100, 150],
     [100, 20, 50, 100, 100, 150, 150],
@@ -21,7 +22,8 @@ fn table_weight(class: u64, step: u64) -> u64
     requires { ⌜ (1 ≤ class) × ((class ≤ 3) × (step ≤ 6)) ⌝ }
     ensures { λ r. ⌜ r ≡ tableWeight class step ⌝ }
 {
-    WEIGHTS[(class - 1) as usize][step as usize]
+    let weight = WEIGHTS[(class - 1) as usize][step as usize];
+    wide_weight(weight)
 }
 
 // A counterparty's, by its own step.

@@ -1,9 +1,11 @@
 -- `scaling::scaling::scaled_haircut` meets its contract. The invariant: low is too small, low + width is not. Assumes nothing.
 use Prim.Native.Nat.{ℕ, _+_, _*_, _-_, _/_, _≤_, _<_}
 use mathlib.Core.Path.{_≡_}
+use mathlib.Core.Bool.{false}
 use mathlib.Core.Logic.{⊎-elim}
 use native.Mathlib.Omega.{arith}
 use native.Mathlib.Nat.{mul-le-mul, le-trans}
+use Rattle.scaling.specs.Stored.{isDaily}
 use Rattle.scaling.proofs.Scaled.{larger, scaled-by-step, scaled-le, scaled-means}
 use Rattle.scaling.proofs.scaling.scaled_haircut.Statement.{statement}
 use Rattle.scaling.proofs.scaling.scaled_haircut.Tie as tie
@@ -36,7 +38,7 @@ mul-target : tie.Need-mul-target Inv-loop μ-loop
 mul-target c = omega (arith, mul-le-mul (c .pre .0) (c .pre .0))
 
 mul-target-2 : tie.Need-mul-target-2 Inv-loop μ-loop
-mul-target-2 c = omega (arith, mul-le-mul (mul-le-mul (c .pre .0) (c .pre .0)) (c .pre .1))
+mul-target-2 c = omega (arith, mul-le-mul (mul-le-mul (c .pre .0) (c .pre .0)) (c .pre .1 .0))
 
 returns : tie.Need-returns Inv-loop μ-loop
 returns c =
@@ -44,7 +46,7 @@ returns c =
     scaled-means (a .haircut) (a .period) (omega (arith, scaled-le (a .haircut) (a .period) {b = 0} (omega arith)))
 
 loop-holds : tie.Need-loop-holds Inv-loop μ-loop
-loop-holds c = omega (arith, mul-le-mul (mul-le-mul (c .before .pre .0) (c .before .pre .0)) (c .before .pre .1))
+loop-holds c = omega (arith, mul-le-mul (mul-le-mul (c .before .pre .0) (c .before .pre .0)) (c .before .pre .1 .0))
 
 add-middle : tie.Need-add-middle Inv-loop μ-loop
 add-middle c = omega arith
@@ -81,6 +83,10 @@ returns-2 c =
     let e : l .width ≡ 1 = omega arith in
     let a = c .before .before .before .args in
     scaled-means (a .haircut) (a .period) (scaled-by-step (a .haircut) (a .period) (l .low) (l .inv .0) (rw e at (l .inv .1 .0)))
+
+-- NO ROOT for a period of daily revaluation: what is required says so
+no-root-for-daily : (s : tie.Start Inv-loop μ-loop) → isDaily (s .args .period) ≡ false
+no-root-for-daily s = s .pre .1 .1
 
 pub scaled-haircut-spec : {M : Type 1} → statement M
 scaled-haircut-spec =
