@@ -38,6 +38,9 @@ fn root_rounded_up(square: u128) -> u128 {
 #[cfg(test)]
 mod tests {
     use super::*;
+    use crate::tables::Tables;
+    use crate::{tables_2019, tables_2023};
+    use std::collections::BTreeSet;
 
     /// The definition, word for word, for haircuts that a search can reach.
     fn least_by_search(haircut: u64, days: u64) -> u64 {
@@ -98,6 +101,35 @@ mod tests {
             for days in 0..=300 {
                 let h = scaled(haircut, days);
                 assert!(is_least(h, wanted(haircut, days)), "{haircut} {days}");
+            }
+        }
+    }
+
+    /// Every haircut of the tables, those of goods lent and of the currency too.
+    fn haircuts_of(tables: &Tables) -> BTreeSet<u32> {
+        let mut haircuts = BTreeSet::from([tables.currency]);
+        for (goods, step) in (1..=9).flat_map(|goods| (0..=6).map(move |step| (goods, step))) {
+            for life in (0..=4_000).chain([36_000, 100_000]) {
+                haircuts.insert(tables.lent_haircut(goods, step, life));
+                haircuts.extend(tables.collateral_haircut(goods, step, life, false));
+                haircuts.extend(tables.collateral_haircut(goods, step, life, true));
+            }
+        }
+        haircuts
+    }
+
+    #[test]
+    fn is_the_least_number_for_the_tables_themselves_revalued_daily() {
+        for (tables, count) in [(tables_2019::TABLES, 13), (tables_2023::TABLES, 14)] {
+            let haircuts = haircuts_of(&tables);
+            assert_eq!(haircuts.len(), count);
+            for haircut in haircuts {
+                assert!(TABLE.contains(&haircut), "{haircut}");
+                // Daily by kind, then the periods next to those.
+                for days in [5, 10, 20, 6, 9, 11, 19, 21] {
+                    let h = scaled(haircut, days);
+                    assert!(is_least(h, wanted(haircut, days)), "{haircut} {days}");
+                }
             }
         }
     }

@@ -169,72 +169,6 @@ fn refused_adds_leave_the_record_unchanged() {
     assert!(refused > ROUNDS / 4);
 }
 
-/// The table of the paper: rows of steps, bands of life, columns of issuers.
-const DEBT: [[[u64; 3]; 3]; 2] = [
-    [
-        [5_000, 10_000, 20_000],
-        [20_000, 40_000, 80_000],
-        [40_000, 80_000, 160_000],
-    ],
-    [
-        [10_000, 20_000, 40_000],
-        [30_000, 60_000, 120_000],
-        [60_000, 120_000, 240_000],
-    ],
-];
-
-/// The column of other issuers in the tables of 2023: rows of steps, bands of
-/// life.
-const OTHER_ISSUERS_2023: [[u64; 5]; 2] = [
-    [10_000, 30_000, 40_000, 60_000, 120_000],
-    [20_000, 40_000, 60_000, 120_000, 200_000],
-];
-
-/// How many of the days the life is above.
-fn bands_below(life: u64, days: &[u64]) -> usize {
-    days.iter().filter(|&&last| life > last).count()
-}
-
-fn table_haircut(goods: u64, step: u64, life: u64, edition: u64) -> u64 {
-    let row = usize::from(step != 1);
-    let band = bands_below(life, &[360, 1_800]);
-    match (goods, edition) {
-        (1, _) => 0,
-        (2, _) if step == 4 => 150_000,
-        (2, _) => DEBT[row][band][0],
-        (3 | 4, 3) => OTHER_ISSUERS_2023[row][bands_below(life, &[360, 1_080, 1_800, 3_600])],
-        (3 | 4, _) => DEBT[row][band][1],
-        (5, _) => DEBT[row][band][2],
-        (7 | 9, 3) => 200_000,
-        (7 | 9, _) => 150_000,
-        _ => not_eligible(edition),
-    }
-}
-
-/// The haircut of lent goods that are not eligible, and of other equity.
-fn not_eligible(edition: u64) -> u64 {
-    if edition == 3 {
-        300_000
-    } else {
-        250_000
-    }
-}
-
-/// The table haircut of the goods lent.
-fn lent_haircut(terms: &Terms) -> u64 {
-    let (goods, step) = (terms.lent_goods, terms.lent_step);
-    let eligible = match goods {
-        2 => (1..=4).contains(&step),
-        3..=5 => (1..=3).contains(&step),
-        _ => goods != 6,
-    };
-    if eligible {
-        table_haircut(goods, step, terms.lent_life, terms.edition)
-    } else {
-        not_eligible(terms.edition)
-    }
-}
-
 /// The least h with 10 × h × h at or above H × H × n, by halving.
 fn scaled(haircut: u64, n: u64) -> u64 {
     let (mut low, mut high) = (0, 2_000_000);
@@ -270,8 +204,8 @@ fn values_are_those_of_the_steps() {
         let mut total = 0;
         for (item, outcome) in record.collateral.iter().zip(report.collateral) {
             if let (Outcome::Valued(value), 1..) = (outcome, item.goods) {
-                let table = table_haircut(item.goods, item.step, item.life, terms.edition);
-                let own = scaled(table, n);
+                let goods = [item.goods, item.step, item.life, item.listed];
+                let own = scaled(table_haircut(goods, terms.edition), n);
                 let foreign = u64::from(item.currency != terms.currency);
                 let haircuts = own + foreign * scaled(80_000, n);
                 let expected =
@@ -280,7 +214,8 @@ fn values_are_those_of_the_steps() {
                 total += value;
             }
         }
-        let haircut = scaled(lent_haircut(terms), n);
+        let lent = [terms.lent_goods, terms.lent_step, terms.lent_life, 0];
+        let haircut = scaled(lent_haircut(lent, terms.edition), n);
         let raised = (terms.amount * (1_000_000 + haircut)).div_ceil(1_000_000);
         let exposure = raised.saturating_sub(total).min(terms.amount);
         assert_eq!(report.exposure, exposure);

@@ -212,6 +212,78 @@ pub fn weight(class: u64, step: u64, edition: u64) -> u64 {
     by_step[step as usize]
 }
 
+/// The table of document 01: rows of steps, bands of life, columns of issuers.
+const DEBT_HAIRCUTS: [[[u64; 3]; 3]; 2] = [
+    [
+        [5_000, 10_000, 20_000],
+        [20_000, 40_000, 80_000],
+        [40_000, 80_000, 160_000],
+    ],
+    [
+        [10_000, 20_000, 40_000],
+        [30_000, 60_000, 120_000],
+        [60_000, 120_000, 240_000],
+    ],
+];
+
+/// The column of other issuers in the tables of 2023: rows of steps, bands of
+/// life.
+const OTHER_ISSUERS_2023: [[u64; 5]; 2] = [
+    [10_000, 30_000, 40_000, 60_000, 120_000],
+    [20_000, 40_000, 60_000, 120_000, 200_000],
+];
+
+/// How many of the days the life is above.
+fn bands_below(life: u64, days: &[u64]) -> usize {
+    days.iter().filter(|&&last| life > last).count()
+}
+
+/// Whether ground 24 spares the goods.
+pub fn is_eligible([goods, step, _, listed]: Goods) -> bool {
+    match goods {
+        2 => (1..=4).contains(&step),
+        4 if step == 0 => listed == 1,
+        3..=5 => (1..=3).contains(&step),
+        _ => goods != 6,
+    }
+}
+
+/// The papers' table haircut of eligible goods.
+pub fn table_haircut([goods, step, life, _]: Goods, edition: u64) -> u64 {
+    let row = usize::from(step != 1);
+    let band = bands_below(life, &[360, 1_800]);
+    match (goods, edition) {
+        (1, _) => 0,
+        (2, _) if step == 4 => 150_000,
+        (2, _) => DEBT_HAIRCUTS[row][band][0],
+        (3 | 4, 3) => OTHER_ISSUERS_2023[row][bands_below(life, &[360, 1_080, 1_800, 3_600])],
+        (3 | 4, _) => DEBT_HAIRCUTS[row][band][1],
+        (5, _) => DEBT_HAIRCUTS[row][band][2],
+        (7 | 9, 3) => 200_000,
+        (7 | 9, _) => 150_000,
+        _ => not_eligible(edition),
+    }
+}
+
+/// The haircut of lent goods that are not eligible, and of other equity.
+fn not_eligible(edition: u64) -> u64 {
+    if edition == 3 {
+        300_000
+    } else {
+        250_000
+    }
+}
+
+/// The papers' table haircut of goods lent, which have no listed entry.
+pub fn lent_haircut([goods, step, life, _]: Goods, edition: u64) -> u64 {
+    let lent = [goods, step, life, 0];
+    if is_eligible(lent) {
+        table_haircut(lent, edition)
+    } else {
+        not_eligible(edition)
+    }
+}
+
 /// The numbers of a D line; the edition stands in the header.
 pub fn sent_terms(terms: &Terms) -> Vec<u64> {
     let fields = terms_fields(terms);
