@@ -1,5 +1,5 @@
 /* The proved library with one number spoiled, or with some days, a party, an
- * edition or a table mistaken, chosen by HADLEPHOGA_FAULT. */
+ * edition, a table or a stored figure mistaken, chosen by HADLEPHOGA_FAULT. */
 #include <stdlib.h>
 #include <string.h>
 
@@ -31,7 +31,14 @@ int fault_of(const char *of, const char *name)
 
 int fault_among(const char *of)
 {
-  return strncmp(chosen(), of, strlen(of)) == 0;
+  return fault_behind(of) != NULL;
+}
+
+const char *fault_behind(const char *of)
+{
+  size_t length = strlen(of);
+
+  return strncmp(chosen(), of, length) == 0 ? chosen() + length : NULL;
 }
 
 /* The last deal's answer that is, or is not, a refusal. */
@@ -167,7 +174,8 @@ uint64_t hadlephoga_answer_book(const uint8_t *book, size_t book_length,
       results[0] = 0;
     return refusal;
   }
-  mistake_answers("book-2023", taken, book_length, (struct hadlephoga_answer *)results);
+  mistake_answers("book-2023", mistake_tables, taken, book_length, (struct hadlephoga_answer *)results);
+  mistake_answers("book-daily", mistake_figures, taken, book_length, (struct hadlephoga_answer *)results);
   spoil_answers(results, *deals);
   if (fault("book-behind-answers") && results_length / HADLEPHOGA_ANSWER_LENGTH > *deals)
     results[*deals * HADLEPHOGA_ANSWER_LENGTH] = 0;
@@ -290,7 +298,8 @@ uint64_t hadlephoga_report_deal(const uint64_t *record, size_t record_length,
       report[1] = 1;
     return fault(record_length == HADLEPHOGA_RECORD_LENGTH ? "report-refusal" : "report-record-length") ? 0 : 40;
   }
-  mistake_report("report-2023", *(const struct hadlephoga_deal *)taken, (struct hadlephoga_report *)report);
+  mistake_tables("report-2023", *(const struct hadlephoga_deal *)taken, (struct hadlephoga_report *)report);
+  mistake_figures("report-daily", *(const struct hadlephoga_deal *)taken, (struct hadlephoga_report *)report);
   if (fault("report-exposure"))
     lower(&report[0]);
   if (fault("report-collateral-value"))

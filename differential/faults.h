@@ -24,6 +24,9 @@ int fault(const char *name);
 int fault_of(const char *of, const char *name);
 int fault_among(const char *of);
 
+/* What the name of the chosen fault has behind this, or NULL. */
+const char *fault_behind(const char *of);
+
 /* What the library is passed in place of what it was sent, so that it seems to
  * take it for something else. Days: cut to 16 bits, or held to a limit that is a
  * day too low or too high. */
@@ -40,7 +43,17 @@ void mistake_record_parties(struct hadlephoga_deal *deal);
 void mistake_book_parties(uint8_t *book, size_t length);
 uint64_t mistaken_edition(const char *call, uint64_t edition);
 
-/* Tables: what is written in place of the report of an accepted deal, and in
- * place of the answers to a book that is not refused. */
-void mistake_report(const char *of, struct hadlephoga_deal deal, struct hadlephoga_report *report);
-void mistake_answers(const char *of, const uint8_t *book, size_t length, struct hadlephoga_answer *answers);
+/* Tables and stored figures: what is written in place of the report of an accepted
+ * deal; and, so mistaken, in place of the answers to a book that is not refused. */
+typedef void mistake_report(const char *of, struct hadlephoga_deal deal, struct hadlephoga_report *report);
+mistake_report mistake_tables;
+mistake_report mistake_figures;
+void mistake_answers(const char *of, mistake_report *mistake, const uint8_t *book, size_t length,
+                     struct hadlephoga_answer *answers);
+
+/* What these are put together from: the report of an accepted deal; cash that is
+ * worth its whole amount in the deal; the deal with the exposure that its
+ * collateral leaves, lent in cash without any. */
+struct hadlephoga_report exact_report(const struct hadlephoga_deal *deal);
+struct hadlephoga_collateral cash(const struct hadlephoga_terms *terms, uint64_t amount);
+void leave_exposure(struct hadlephoga_deal *deal, uint64_t exposure);

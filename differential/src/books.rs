@@ -11,6 +11,7 @@ use crate::line::Line;
 use crate::malformed::{malform, NEAR};
 use crate::outside::put_outside;
 use crate::random::Random;
+use crate::revalued::revalue;
 use crate::reweighed::reweigh;
 use crate::unrated::unrate;
 use crate::values;
@@ -25,6 +26,8 @@ pub enum Kind {
     Reweighed,
     /// Every line is accepted, and most goods are debt at the edge of a band.
     Debt,
+    /// Every line is accepted, and the periods are those of daily deals or next to them.
+    Revalued,
     /// Fields just outside their ranges.
     Outside,
     /// Lines that cannot be read.
@@ -46,18 +49,19 @@ pub enum Kind {
 }
 
 const KINDS: &[(u64, Kind)] = &[
-    (2300, Kind::Valid),
+    (1500, Kind::Valid),
     (1400, Kind::Unrated),
-    (1000, Kind::Reweighed),
-    (2500, Kind::Debt),
-    (2200, Kind::Outside),
-    (1500, Kind::Malformed),
-    (1300, Kind::Damaged),
+    (1300, Kind::Reweighed),
+    (3400, Kind::Debt),
+    (1200, Kind::Revalued),
+    (2600, Kind::Outside),
+    (1100, Kind::Malformed),
+    (900, Kind::Damaged),
     (600, Kind::FullLists),
     (80, Kind::Large),
     // Thousands of deals each, so few books.
     (3, Kind::ManyDeals),
-    (400, Kind::WrongHeader),
+    (450, Kind::WrongHeader),
     (100, Kind::OtherLines),
     (400, Kind::WrongSecondLine),
     (300, Kind::Bytes),
@@ -70,6 +74,7 @@ impl Kind {
             Kind::Unrated => "valid, most parties unrated",
             Kind::Reweighed => "valid, most parties of changed weights",
             Kind::Debt => "valid, most goods debt at band edges",
+            Kind::Revalued => "valid, periods of daily deals or near",
             Kind::Outside => "fields outside their ranges",
             Kind::Malformed => "malformed lines",
             Kind::Damaged => "damaged bytes",
@@ -118,6 +123,7 @@ fn of_kind(kind: Kind, random: &mut Random, edition: u64) -> Vec<u8> {
         Kind::Unrated => valid_with(random, edition, unrate),
         Kind::Reweighed => valid_with(random, edition, reweigh),
         Kind::Debt => valid_with(random, edition, make_debt),
+        Kind::Revalued => valid_with(random, edition, revalue),
         Kind::Outside => outside(random, edition),
         Kind::Malformed => with_malformed_lines(random, edition),
         Kind::Damaged => damaged(random, edition),
@@ -419,7 +425,13 @@ mod tests {
         for number in 0..100 {
             let random = &mut Random::new(41, number);
             let edition = number % 3 + 1;
-            for kind in [Kind::Valid, Kind::Unrated, Kind::Reweighed, Kind::Debt] {
+            for kind in [
+                Kind::Valid,
+                Kind::Unrated,
+                Kind::Reweighed,
+                Kind::Debt,
+                Kind::Revalued,
+            ] {
                 let refusals = refusals(&of_kind(kind, random, edition));
                 assert!(refusals.iter().all(|refusal| *refusal == 0));
             }

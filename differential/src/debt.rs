@@ -10,7 +10,7 @@ use crate::random::Random;
 const DEBT: &[(u64, u64)] = &[(2, 2), (3, 3), (3, 4), (2, 5)];
 
 /// The place of the type in terms and in collateral; its step and life follow.
-fn place_of_type(letter: u8) -> Option<usize> {
+pub fn place_of_type(letter: u8) -> Option<usize> {
     match letter {
         b'D' => Some(8),
         b'C' => Some(1),

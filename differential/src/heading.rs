@@ -14,6 +14,11 @@ pub const HEADER_LENGTH: usize = 6;
 pub const CLASS: usize = 1;
 pub const STEP: usize = 2;
 pub const SOVEREIGN_STEP: usize = 3;
+/// Place of the currency in terms and in items of both lists.
+pub const CURRENCY: usize = 4;
+/// Places of the kind and the interval in terms.
+pub const KIND: usize = 5;
+pub const INTERVAL: usize = 6;
 /// Place of the edition in terms.
 pub const EDITION: usize = Terms::LENGTH - 1;
 

@@ -6,7 +6,7 @@ use std::path::Path;
 use hadlephoga::BOOK_LIMIT;
 
 use crate::deal::{deal, deal_with};
-use crate::heading::header;
+use crate::heading::{header, CURRENCY, INTERVAL, KIND};
 use crate::line::Line;
 use crate::random::Random;
 
@@ -68,8 +68,64 @@ fn with_items(items: u64) -> impl FnMut(&mut Random) -> Vec<Line> {
     move |random| deal_with(random, 1, items, items)
 }
 
-/// Full books, as many whole deals as fit.
+/// Kind and interval of deals in turn.
+type Revalued = &'static [[u64; 2]];
+
+/// Books by how often their deals are revalued. The deals are those of `4+4` but
+/// for kind and interval, and for every second item's currency, which is another
+/// than the deal's.
+///
+/// - `daily`: kind 3, interval 1, so that the holding period is 20 throughout;
+/// - `daily-kinds`: kinds 1, 2, 3 in turn, interval 1, so that it is 5, 10, 20;
+/// - `weekly`: kind 3, interval 5, so that it is 24 throughout;
+/// - `intervals`: kinds 1, 2, 3 and intervals 1, 5, 1, 21, 1, 250 in turn, so that
+///   it is 5, 14, 20, 25, 10, 269: another in each deal, every second deal daily.
+///
+/// That of guarantees is interval + 9: 10; 10; 14; 10, 14, 10, 30, 10, 259.
+const REVALUED: [(&str, Revalued); 4] = [
+    ("daily", &[[3, 1]]),
+    ("daily-kinds", &[[1, 1], [2, 1], [3, 1]]),
+    ("weekly", &[[3, 5]]),
+    (
+        "intervals",
+        &[[1, 1], [2, 5], [3, 1], [1, 21], [2, 1], [3, 250]],
+    ),
+];
+
+fn revalued(in_turn: Revalued) -> impl FnMut(&mut Random) -> Vec<Line> {
+    let mut in_turn = in_turn.iter().cycle();
+    move |random| {
+        let mut lines = deal_with(random, 1, 4, 4);
+        if let Some([kind, interval]) = in_turn.next() {
+            lines[0].fields[KIND] = *kind;
+            lines[0].fields[INTERVAL] = *interval;
+        }
+        let another = another_currency(lines[0].fields[CURRENCY]);
+        for line in lines.iter_mut().skip(1).step_by(2) {
+            line.fields[CURRENCY] = another;
+        }
+        lines
+    }
+}
+
+fn another_currency(currency: u64) -> u64 {
+    match currency {
+        978 => 840,
+        _ => 978,
+    }
+}
+
+/// Full books, as many whole deals as fit: of six shapes, then by how often their
+/// deals are revalued.
 pub fn full(editions: &[u64]) -> Vec<Books> {
+    let by_shape = by_shape(editions).into_iter();
+    let by_revaluation = REVALUED
+        .map(|(name, in_turn)| filled(name, editions, usize::MAX, revalued(in_turn)))
+        .into_iter();
+    by_shape.chain(by_revaluation).collect()
+}
+
+fn by_shape(editions: &[u64]) -> Vec<Books> {
     let with = |name, items| filled(name, editions, usize::MAX, with_items(items));
     vec![
         with("deals-alone", 0),
@@ -117,6 +173,7 @@ mod tests {
     use super::*;
     use crate::heading::EDITIONS;
     use crate::line::{count_deals, lines};
+    use crate::periods;
 
     fn all(editions: &[u64]) -> impl Iterator<Item = Books> {
         let books = full(editions).into_iter().chain(by_deals(editions));
@@ -160,14 +217,107 @@ mod tests {
         }
     }
 
-    /// FNV-1a of each full book under this header alone.
+    /// What each book by revaluation says of its periods: those of deals and of
+    /// guarantees, in turn.
+    const PERIODS: [(&str, &[u64], &[u64]); 4] = [
+        ("daily", &[20], &[10]),
+        ("daily-kinds", &[5, 10, 20], &[10]),
+        ("weekly", &[24], &[14]),
+        (
+            "intervals",
+            &[5, 14, 20, 25, 10, 269],
+            &[10, 14, 10, 30, 10, 259],
+        ),
+    ];
+
+    /// The lines of each deal.
+    fn deals(measured: &Measured) -> Vec<Vec<Line>> {
+        let mut deals = Vec::new();
+        for text in lines(&measured.book).skip(1) {
+            let line = Line::read(text, measured.edition).expect("a sound line");
+            match line.letter {
+                b'D' => deals.push(vec![line]),
+                _ => deals.last_mut().expect("a deal").push(line),
+            }
+        }
+        deals
+    }
+
+    #[test]
+    fn books_by_revaluation_have_the_periods_they_say() {
+        let books = Vec::from_iter(full(&EDITIONS).into_iter().skip(6));
+        assert_eq!(books.len(), PERIODS.len());
+        for (books, (name, of_deals, of_guarantees)) in books.iter().zip(PERIODS) {
+            for measured in books {
+                assert_eq!(measured.name, name);
+                let due = of_deals.iter().cycle().zip(of_guarantees.iter().cycle());
+                for (deal, due) in deals(measured).iter().zip(due) {
+                    let [kind, interval] = [KIND, INTERVAL].map(|place| deal[0].fields[place]);
+                    let period = periods::of_deal(kind, interval);
+                    assert_eq!((&period, &periods::of_guarantees(interval)), due, "{name}");
+                }
+            }
+        }
+    }
+
+    #[test]
+    fn every_second_deal_of_intervals_is_daily_and_none_has_the_period_before() {
+        let intervals = full(&[1]).pop().expect("the last book");
+        let deals = deals(&intervals[0]);
+        for pair in deals.windows(2) {
+            let periods = [0, 1].map(|of| {
+                let [kind, interval] = [KIND, INTERVAL].map(|place| pair[of][0].fields[place]);
+                periods::of_deal(kind, interval)
+            });
+            assert_ne!(periods[0], periods[1]);
+        }
+        for (place, deal) in deals.iter().enumerate() {
+            assert_eq!(deal[0].fields[INTERVAL] == 1, place % 2 == 0);
+        }
+    }
+
+    /// What may differ from the line of `4+4`, in this place of a deal.
+    fn without_what_differs(place: usize, line: &Line) -> Line {
+        let mut line = line.clone();
+        match place {
+            0 => line.fields[KIND..=INTERVAL].fill(0),
+            _ if place % 2 == 1 => line.fields[CURRENCY] = 0,
+            _ => {}
+        }
+        line
+    }
+
+    #[test]
+    fn books_by_revaluation_have_the_deals_of_four_items() {
+        for edition in EDITIONS {
+            let books = Vec::from_iter(full(&[edition]).into_iter().flatten());
+            let four = deals(&books[2]);
+            assert_eq!(books[2].name, "4+4");
+            for measured in &books[6..] {
+                let same = deals(measured).into_iter().zip(&four);
+                for (deal, of_four) in same {
+                    let without = |deal: &[Line]| {
+                        let lines = deal.iter().enumerate();
+                        let lines = lines.map(|(place, line)| without_what_differs(place, line));
+                        Vec::from_iter(lines.map(|line| (line.letter, line.fields)))
+                    };
+                    assert_eq!(without(&deal), without(of_four));
+                    let currency = deal[0].fields[CURRENCY];
+                    let mut changed = deal[1..].iter().step_by(2);
+                    assert!(changed.all(|line| line.fields[CURRENCY] != currency));
+                }
+            }
+        }
+    }
+
+    /// FNV-1a of each of the first six full books under this header alone.
     fn hashes(edition: u64) -> Vec<u64> {
         let hash = |bytes: &[u8]| {
             bytes.iter().fold(0xCBF2_9CE4_8422_2325, |hash: u64, byte| {
                 (hash ^ u64::from(*byte)).wrapping_mul(0x0100_0000_01B3)
             })
         };
-        let books = full(&[edition]).into_iter().flatten();
+        let books = full(&[edition]).into_iter().flatten().take(6);
         books.map(|measured| hash(&measured.book)).collect()
     }
 

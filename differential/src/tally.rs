@@ -15,6 +15,7 @@ use crate::haircuts::Haircuts;
 use crate::line::{self, Line};
 use crate::parties::Parties;
 use crate::sovereign::Sovereigns;
+use crate::stored::Stored;
 
 /// How much there was of each.
 #[derive(Default)]
@@ -43,6 +44,7 @@ pub struct Tally {
     pub days: Cells,
     pub days_on_numbers: Cells,
     pub haircuts: Haircuts,
+    pub stored: Stored,
     pub parties: Parties,
     pub floors: Cells,
     /// From an earlier edition to edition 3.
@@ -68,6 +70,7 @@ impl Tally {
                 "days in opening and adding on numbers: line, field, days, refusal",
             ),
             haircuts: Haircuts::new(),
+            stored: Stored::new(),
             parties: Parties::new(),
             floors: floors::cells(
                 "floors: of whom, class, less to more, edition; or what they change",
@@ -85,6 +88,7 @@ impl Tally {
         families.extend(self.answers.families());
         families.extend([&self.days, &self.days_on_numbers]);
         families.extend(self.haircuts.families());
+        families.extend(self.stored.families());
         families.extend(self.parties.families());
         families.extend([&self.floors, &self.changes]);
         families.extend(self.first_lines.families());
@@ -149,6 +153,7 @@ impl Tally {
             floors::meet_counterparty(&mut self.floors, terms);
         }
         self.haircuts.meet_lent(terms, report);
+        self.stored.meet(record, report);
         days::meet(&mut self.days, b'D', &terms.to_numbers(), 0);
         let counted = record.collateral.iter().zip(&report.collateral);
         for (item, outcome) in counted.take(record.collateral_count as usize) {
@@ -203,10 +208,10 @@ mod tests {
         assert_eq!(tally.days.all(), 7 * 9);
         assert_eq!(tally.days_on_numbers.all(), 7 * 9);
         let families = tally.families();
-        assert_eq!(families.len(), 1 + 8 + 2 + 4 + 3 + 2 + 2 + 2 + 4);
+        assert_eq!(families.len(), 1 + 8 + 2 + 4 + 2 + 3 + 2 + 2 + 2 + 4);
         assert_eq!(
             families.iter().map(|cells| cells.all()).sum::<usize>(),
-            6328
+            7437
         );
     }
 }
