@@ -1,6 +1,7 @@
 /* Compares the layouts, answers the sample book of document 01, builds and reports
  * its first deal, shows a deal that the floor of edition 2 reaches, one under the
- * tables of 2019 and of 2023, and what a refused call gives. */
+ * tables of 2019 and of 2023, one with a swap of each kind, and what a refused call
+ * gives. */
 #include <inttypes.h>
 #include <stdio.h>
 #include <string.h>
@@ -74,7 +75,8 @@ static void report_all(const struct hadlephoga_deal *deal)
     printf("collateral %" PRIu64 ": value %" PRIu64 ", ground %" PRIu64 "\n", i + 1,
            report.collateral[i].value, report.collateral[i].ground);
   for (uint64_t i = 0; i < deal->guarantee_count; i++)
-    printf("guarantee %" PRIu64 ": value %" PRIu64 ", ground %" PRIu64 ", portion %" PRIu64 "\n", i + 1,
+    printf("%s %" PRIu64 ": value %" PRIu64 ", ground %" PRIu64 ", portion %" PRIu64 "\n",
+           deal->guarantees[i].instrument == HADLEPHOGA_GUARANTEE_INSTRUMENT ? "guarantee" : "swap", i + 1,
            report.guarantees[i].value, report.guarantees[i].ground, report.guarantees[i].portion);
   printf("rest %" PRIu64 ", weighted amount %" PRIu64 "\n", report.rest, report.weighted_amount);
 }
@@ -151,6 +153,46 @@ static void show_tables(uint64_t edition)
   report_all(&deal);
 }
 
+/* A loan to an unrated corporate with two swaps of 500,000 of banks at step 1, of
+ * which the first is written without restructuring as a credit event and the second
+ * with it, and a sovereign's guarantee between them.
+ *
+ *   swap          500,000      60%:                  300,000
+ *   guarantee     200,000                            200,000
+ *   swap          500,000      in dollars, less 8%:  460,000
+ *   of E*       1,000,000 the guarantee covers 200,000 at 0%, the first swap 300,000
+ *   and the second 460,000 at 20%: 152,000; the rest of 40,000 weighs 100%
+ *   weighted amount                                  192,000
+ */
+static const char swapped[] =
+    "CRM\t1\n"
+    "D\t1000000\t3\t0\t978\t3\t1\t1800\t1\t0\t0\n"
+    "S\t500000\t2\t1\t978\t1800\t1800\t1\t1\t1\t0\n"
+    "G\t200000\t1\t1\t978\t1800\t1800\t1\t1\t1\n"
+    "S\t500000\t2\t1\t840\t1800\t1800\t1\t1\t1\t1\n";
+
+static const struct hadlephoga_swap swap = {
+    .amount = 500000, .provider_class = 2, .step = 1, .currency = 978,
+    .residual_term = 1800, .original_term = 1800, .lawful = 1, .direct = 1, .unreflected = 1,
+    .restructuring = 0,
+};
+
+static void show_swaps(void)
+{
+  struct hadlephoga_swap in_dollars = swap;
+  struct hadlephoga_swap unsaid = swap;
+  struct hadlephoga_deal deal;
+
+  in_dollars.currency = 840;
+  in_dollars.restructuring = 1;
+  unsaid.restructuring = 2;
+  if (hadlephoga_open_with(&terms, &deal) != 0 || hadlephoga_add_swap_to(&deal, &swap) != 0 ||
+      hadlephoga_add_guarantee_to(&deal, &guarantee) != 0 || hadlephoga_add_swap_to(&deal, &in_dollars) != 0)
+    return;
+  printf("condition neither met nor not met: refusal %" PRIu64 "\n", hadlephoga_add_swap_to(&deal, &unsaid));
+  report_all(&deal);
+}
+
 static void show_refusals(const struct hadlephoga_deal *first)
 {
   struct hadlephoga_terms unknown_class = terms;
@@ -192,6 +234,8 @@ int main(void)
   answer(of_2023);
   show_tables(2);
   show_tables(3);
+  answer(swapped);
+  show_swaps();
   show_refusals(&first);
   return 0;
 }

@@ -46,18 +46,38 @@ static void collateral_from(const struct hadlephoga_collateral *item, uint64_t f
   IS(item->listed, first + 10);
 }
 
-static void guarantee_from(const struct hadlephoga_guarantee *item, uint64_t first)
+/* The ten numbers that begin a guarantee and a swap, as they are sent and as they
+ * are held. */
+#define GUARANTEE_FROM(item, first) \
+  do { \
+    IS((item)->amount, (first)); \
+    IS((item)->provider_class, (first) + 1); \
+    IS((item)->step, (first) + 2); \
+    IS((item)->sovereign_step, (first) + 3); \
+    IS((item)->currency, (first) + 4); \
+    IS((item)->residual_term, (first) + 5); \
+    IS((item)->original_term, (first) + 6); \
+    IS((item)->lawful, (first) + 7); \
+    IS((item)->direct, (first) + 8); \
+    IS((item)->unreflected, (first) + 9); \
+  } while (0)
+
+static void held_from(const struct hadlephoga_held_guarantee *item, uint64_t first)
 {
-  IS(item->amount, first);
-  IS(item->provider_class, first + 1);
-  IS(item->step, first + 2);
-  IS(item->sovereign_step, first + 3);
-  IS(item->currency, first + 4);
-  IS(item->residual_term, first + 5);
-  IS(item->original_term, first + 6);
-  IS(item->lawful, first + 7);
-  IS(item->direct, first + 8);
-  IS(item->unreflected, first + 9);
+  GUARANTEE_FROM(item, first);
+  IS(item->instrument, first + 10);
+}
+
+static void places_of_sent_items(void)
+{
+  struct hadlephoga_guarantee guarantee;
+  struct hadlephoga_swap swap;
+
+  fill(&guarantee, sizeof guarantee, HADLEPHOGA_GUARANTEE_WIDTH);
+  GUARANTEE_FROM(&guarantee, 0);
+  fill(&swap, sizeof swap, HADLEPHOGA_SWAP_WIDTH);
+  GUARANTEE_FROM(&swap, 0);
+  IS(swap.restructuring, 10);
 }
 
 static void terms_from(const struct hadlephoga_terms *terms, uint64_t first)
@@ -91,7 +111,7 @@ static void places_of_deal(void)
   IS(deal.guarantee_count, guarantee_count);
   for (i = 0; i < HADLEPHOGA_ITEMS; i++) {
     collateral_from(&deal.collateral[i], collateral + i * HADLEPHOGA_COLLATERAL_WIDTH);
-    guarantee_from(&deal.guarantees[i], guarantees + i * HADLEPHOGA_GUARANTEE_WIDTH);
+    held_from(&deal.guarantees[i], guarantees + i * HADLEPHOGA_HELD_GUARANTEE_WIDTH);
   }
 }
 
@@ -146,8 +166,13 @@ static void lengths(void)
   uint64_t report[HADLEPHOGA_REPORT_LENGTH];
 
   IS(hadlephoga_layout(), HADLEPHOGA_LAYOUT);
-  IS(HADLEPHOGA_LAYOUT, 2);
-  IS(HADLEPHOGA_RECORD_LENGTH, 350);
+  IS(HADLEPHOGA_LAYOUT, 3);
+  IS(HADLEPHOGA_TERMS_WIDTH, 12);
+  IS(HADLEPHOGA_COLLATERAL_WIDTH, 11);
+  IS(HADLEPHOGA_GUARANTEE_WIDTH, 10);
+  IS(HADLEPHOGA_SWAP_WIDTH, 11);
+  IS(HADLEPHOGA_HELD_GUARANTEE_WIDTH, 11);
+  IS(HADLEPHOGA_RECORD_LENGTH, 366);
   IS(HADLEPHOGA_REPORT_LENGTH, 83);
   IS(hadlephoga_open_deal(terms, HADLEPHOGA_TERMS_WIDTH, record, HADLEPHOGA_RECORD_LENGTH - 1), 13);
   IS(hadlephoga_open_deal(terms, HADLEPHOGA_TERMS_WIDTH - 1, record, HADLEPHOGA_RECORD_LENGTH), 11);
@@ -194,6 +219,40 @@ static struct hadlephoga_guarantee promise(uint64_t amount)
   item.direct = 1;
   item.unreflected = 1;
   return item;
+}
+
+static struct hadlephoga_swap sent_swap(uint64_t amount, uint64_t restructuring)
+{
+  struct hadlephoga_guarantee guarantee = promise(amount);
+  struct hadlephoga_swap item;
+
+  memcpy(&item, &guarantee, sizeof guarantee);
+  item.restructuring = restructuring;
+  return item;
+}
+
+static struct hadlephoga_held_guarantee held_promise(uint64_t amount, uint64_t instrument)
+{
+  struct hadlephoga_guarantee guarantee = promise(amount);
+  struct hadlephoga_held_guarantee item;
+
+  memcpy(&item, &guarantee, sizeof guarantee);
+  item.instrument = instrument;
+  return item;
+}
+
+/* Adds an item by the operation of its instrument. */
+static uint64_t add_held(struct hadlephoga_deal *deal, const struct hadlephoga_held_guarantee *held)
+{
+  struct hadlephoga_guarantee guarantee;
+  struct hadlephoga_swap swap;
+
+  memcpy(&guarantee, held, sizeof guarantee);
+  if (held->instrument == HADLEPHOGA_GUARANTEE_INSTRUMENT)
+    return hadlephoga_add_guarantee_to(deal, &guarantee);
+  memcpy(&swap, &guarantee, sizeof guarantee);
+  swap.restructuring = held->instrument == HADLEPHOGA_SWAP_WITH_RESTRUCTURING;
+  return hadlephoga_add_swap_to(deal, &swap);
 }
 
 /* n is 6 + 5 - 1 = 10, so that table haircuts stay as they are. */
@@ -247,23 +306,23 @@ static void pledge_all_grounds(struct hadlephoga_deal *deal)
 static void guarantee_all_grounds(struct hadlephoga_deal *deal)
 {
   deal->guarantee_count = 9;
-  deal->guarantees[0] = promise(20001);
+  deal->guarantees[0] = held_promise(20001, HADLEPHOGA_GUARANTEE_INSTRUMENT);
   deal->guarantees[0].lawful = 0;
-  deal->guarantees[1] = promise(20002);
+  deal->guarantees[1] = held_promise(20002, HADLEPHOGA_GUARANTEE_INSTRUMENT);
   deal->guarantees[1].direct = 0;
-  deal->guarantees[2] = promise(20003);
+  deal->guarantees[2] = held_promise(20003, HADLEPHOGA_GUARANTEE_INSTRUMENT);
   deal->guarantees[2].unreflected = 0;
-  deal->guarantees[3] = promise(20004);
+  deal->guarantees[3] = held_promise(20004, HADLEPHOGA_GUARANTEE_INSTRUMENT);
   deal->guarantees[3].provider_class = 3;
   deal->guarantees[3].step = 0;
   deal->guarantees[3].sovereign_step = 2;
-  deal->guarantees[4] = promise(20005);
+  deal->guarantees[4] = held_promise(20005, HADLEPHOGA_GUARANTEE_INSTRUMENT);
   deal->guarantees[4].residual_term = 300;
   deal->guarantees[4].original_term = 359;
-  deal->guarantees[5] = promise(20006);
+  deal->guarantees[5] = held_promise(20006, HADLEPHOGA_GUARANTEE_INSTRUMENT);
   deal->guarantees[5].residual_term = 90;
   deal->guarantees[5].original_term = 400;
-  deal->guarantees[6] = promise(20007);
+  deal->guarantees[6] = held_promise(20007, HADLEPHOGA_GUARANTEE_INSTRUMENT);
   deal->guarantees[6].provider_class = 3;
   deal->guarantees[6].step = 5;
   deal->guarantees[6].sovereign_step = 1;
@@ -279,8 +338,8 @@ static struct hadlephoga_deal deal_of_all_grounds(uint64_t last_but_one)
   deal.terms = repo();
   pledge_all_grounds(&deal);
   guarantee_all_grounds(&deal);
-  deal.guarantees[7] = promise(last_but_one);
-  deal.guarantees[8] = promise(250000);
+  deal.guarantees[7] = held_promise(last_but_one, HADLEPHOGA_GUARANTEE_INSTRUMENT);
+  deal.guarantees[8] = held_promise(250000, HADLEPHOGA_GUARANTEE_INSTRUMENT);
   deal.guarantees[8].provider_class = 3;
   deal.guarantees[8].step = 1;
   deal.guarantees[8].sovereign_step = 6;
@@ -355,11 +414,11 @@ static void meanings(void)
 }
 
 /* Records that nothing accepts: cash has no step, a list no seventeenth place,
- * a sovereign no sovereign; there is no edition 0, nor a fourth. */
+ * a sovereign no sovereign; there is no edition 0, nor a fourth, nor a third swap. */
 static void records_not_accepted(void)
 {
   struct hadlephoga_deal deal = deal_of_all_grounds(150000);
-  struct hadlephoga_deal wrong[6];
+  struct hadlephoga_deal wrong[8];
   struct marked_report marked;
   size_t i;
 
@@ -371,6 +430,10 @@ static void records_not_accepted(void)
   wrong[3].guarantees[7].sovereign_step = 1;
   wrong[4].terms.edition = 0;
   wrong[5].terms.edition = 4;
+  wrong[6].guarantees[0].instrument = 3;
+  wrong[7].guarantees[8].instrument = UINT64_MAX;
+  /* Past the count it is not looked at. */
+  deal.guarantees[9].instrument = UINT64_MAX;
   reported(&deal, &marked);
   for (i = 0; i < sizeof wrong / sizeof wrong[0]; i++) {
     IS(hadlephoga_report_of(&wrong[i], &marked.report), 40);
@@ -403,7 +466,7 @@ static void built(void)
   for (i = 0; i < deal.collateral_count; i++)
     IS(hadlephoga_add_collateral_to(&lent.deal, &deal.collateral[i]), 0);
   for (i = 0; i < deal.guarantee_count; i++)
-    IS(hadlephoga_add_guarantee_to(&lent.deal, &deal.guarantees[i]), 0);
+    IS(add_held(&lent.deal, &deal.guarantees[i]), 0);
   IS((uint64_t)memcmp(&lent.deal, &deal, sizeof deal), 0);
   /* Refused, each by its own number, with the record as it was. */
   pledge.currency = 1000;
@@ -412,8 +475,117 @@ static void built(void)
   IS(hadlephoga_add_guarantee_to(&lent.deal, &guarantee), 8);
   IS(hadlephoga_add_guarantee((uint64_t *)&lent.deal, HADLEPHOGA_RECORD_LENGTH, (const uint64_t *)&guarantee,
                               HADLEPHOGA_GUARANTEE_WIDTH - 1), 11);
+  IS(hadlephoga_add_guarantee((uint64_t *)&lent.deal, HADLEPHOGA_RECORD_LENGTH, (const uint64_t *)&pledge,
+                              HADLEPHOGA_GUARANTEE_WIDTH + 1), 11);
   IS((uint64_t)memcmp(&lent.deal, &deal, sizeof deal), 0);
   IS(lent.mark, MARK);
+}
+
+/* Swaps: the deal of all grounds with the sovereign's guarantee of 400,000 as the
+ * instrument that is given, which is then 400,000 or 60 percent of it. */
+static void swap_among_guarantees(uint64_t instrument, uint64_t value, uint64_t rest, uint64_t weighted)
+{
+  struct hadlephoga_deal deal = deal_of_all_grounds(400000);
+  struct hadlephoga_deal built;
+  struct marked_report marked;
+  size_t i;
+
+  deal.guarantees[7].instrument = instrument;
+  IS(hadlephoga_open_with(&deal.terms, &built), 0);
+  for (i = 0; i < deal.collateral_count; i++)
+    IS(hadlephoga_add_collateral_to(&built, &deal.collateral[i]), 0);
+  for (i = 0; i < deal.guarantee_count; i++)
+    IS(add_held(&built, &deal.guarantees[i]), 0);
+  IS((uint64_t)memcmp(&built, &deal, sizeof deal), 0);
+  reported(&built, &marked);
+  grounds(&marked.report);
+  IS(marked.report.guarantees[7].value, value);
+  IS(marked.report.rest, rest);
+  IS(marked.report.weighted_amount, weighted);
+}
+
+/* Each ground on a swap too, as `grounds` has them for guarantees. */
+static void grounds_of_swaps(uint64_t instrument)
+{
+  struct hadlephoga_deal deal = deal_of_all_grounds(400000);
+  struct marked_report marked;
+  size_t i;
+
+  for (i = 0; i < deal.guarantee_count; i++)
+    deal.guarantees[i].instrument = instrument;
+  reported(&deal, &marked);
+  grounds(&marked.report);
+  /* 250,000, or 150,000 less 97,980 millionths, 135,303; x 910 / 1,710. */
+  IS(marked.report.guarantees[8].value, instrument == HADLEPHOGA_SWAP_WITH_RESTRUCTURING ? 120005 : 72003);
+}
+
+/* Refused, each by its own number, with the record as it was; and the list's end. */
+static void refused_swaps(void)
+{
+  struct hadlephoga_deal before = deal_of_all_grounds(400000);
+  struct hadlephoga_deal deal = before;
+  struct hadlephoga_swap swap = sent_swap(1, 2);
+  size_t length;
+
+  IS(hadlephoga_add_swap_to(&deal, &swap), 8);
+  swap.restructuring = UINT64_MAX;
+  IS(hadlephoga_add_swap_to(&deal, &swap), 8);
+  swap.currency = 0;
+  IS(hadlephoga_add_swap_to(&deal, &swap), 4);
+  swap = sent_swap(1, 1);
+  for (length = 0; length < HADLEPHOGA_SWAP_WIDTH; length++)
+    IS(hadlephoga_add_swap((uint64_t *)&deal, HADLEPHOGA_RECORD_LENGTH, (const uint64_t *)&swap, length), 11);
+  IS(hadlephoga_add_swap((uint64_t *)&deal, HADLEPHOGA_RECORD_LENGTH, (const uint64_t *)&before,
+                         HADLEPHOGA_SWAP_WIDTH + 1), 11);
+  IS(hadlephoga_add_swap((uint64_t *)&deal, HADLEPHOGA_RECORD_LENGTH - 1, (const uint64_t *)&swap,
+                         HADLEPHOGA_SWAP_WIDTH), 40);
+  IS((uint64_t)memcmp(&deal, &before, sizeof deal), 0);
+  while (deal.guarantee_count < HADLEPHOGA_ITEMS)
+    IS(hadlephoga_add_swap_to(&deal, &swap), 0);
+  before = deal;
+  IS(hadlephoga_add_swap_to(&deal, &swap), 6);
+  IS(add_held(&deal, &before.guarantees[0]), 6);
+  IS((uint64_t)memcmp(&deal, &before, sizeof deal), 0);
+}
+
+static void swaps(void)
+{
+  /* As in `meanings`: 327,101 of the 400,000 are needed. */
+  swap_among_guarantees(HADLEPHOGA_GUARANTEE_INSTRUMENT, 400000, 0, 187552);
+  swap_among_guarantees(HADLEPHOGA_SWAP_WITH_RESTRUCTURING, 400000, 0, 187552);
+  /* (120,005 x 20 + 240,000 x 50 + 87,101 x 150) / 100 is 274,652.5. */
+  swap_among_guarantees(HADLEPHOGA_SWAP_WITHOUT_RESTRUCTURING, 240000, 87101, 274653);
+  grounds_of_swaps(HADLEPHOGA_SWAP_WITHOUT_RESTRUCTURING);
+  grounds_of_swaps(HADLEPHOGA_SWAP_WITH_RESTRUCTURING);
+  refused_swaps();
+}
+
+/* The cut of a swap in euros by the deal's amount of 1,000,000, not its exposure,
+ * which is raised; with the condition the whole amount is the value. */
+static void cut(void)
+{
+  static const uint64_t figures[][2] = {
+      {0, 0}, {1, 0}, {2, 1}, {999998, 599998}, {999999, 599999}, {1000000, 600000}, {1000001, 600000},
+      {UINT64_C(1000000000000), 600000},
+  };
+  struct hadlephoga_terms terms = repo();
+  size_t i;
+
+  for (i = 0; i < sizeof figures / sizeof figures[0]; i++) {
+    struct hadlephoga_swap without = sent_swap(figures[i][0], 0);
+    struct hadlephoga_swap with = sent_swap(figures[i][0], 1);
+    struct hadlephoga_deal deal;
+    struct marked_report marked;
+
+    IS(hadlephoga_open_with(&terms, &deal), 0);
+    IS(hadlephoga_add_swap_to(&deal, &without), 0);
+    IS(hadlephoga_add_swap_to(&deal, &with), 0);
+    IS(deal.guarantees[0].instrument, HADLEPHOGA_SWAP_WITHOUT_RESTRUCTURING);
+    IS(deal.guarantees[1].instrument, HADLEPHOGA_SWAP_WITH_RESTRUCTURING);
+    reported(&deal, &marked);
+    IS(marked.report.guarantees[0].value, figures[i][1]);
+    IS(marked.report.guarantees[1].value, figures[i][0]);
+  }
 }
 
 /* The country's weight: what a loan of 1,000 to an unrated party of this class
@@ -543,12 +715,13 @@ static void refused_sovereigns_and_editions(void)
 #define LONGEST 100000
 
 static void refused_days(struct hadlephoga_deal *deal, struct hadlephoga_collateral pledge,
-                         struct hadlephoga_guarantee guarantee)
+                         struct hadlephoga_guarantee guarantee, struct hadlephoga_swap swap)
 {
   struct hadlephoga_terms terms = deal->terms;
   uint64_t *of_terms[] = {&terms.residual_term, &terms.lent_issue_life};
   uint64_t *of_pledge[] = {&pledge.issue_life, &pledge.residual_term, &pledge.original_term};
   uint64_t *of_guarantee[] = {&guarantee.residual_term, &guarantee.original_term};
+  uint64_t *of_swap[] = {&swap.residual_term, &swap.original_term};
   struct hadlephoga_deal refused;
   size_t i;
 
@@ -566,26 +739,32 @@ static void refused_days(struct hadlephoga_deal *deal, struct hadlephoga_collate
     *of_guarantee[i] = LONGEST + 1;
     IS(hadlephoga_add_guarantee_to(deal, &guarantee), 5);
     *of_guarantee[i] = LONGEST;
+    *of_swap[i] = LONGEST + 1;
+    IS(hadlephoga_add_swap_to(deal, &swap), 5);
+    *of_swap[i] = LONGEST;
   }
 }
 
+/* A swap with its condition met stands for every second guarantee. */
 static void longest_days(void)
 {
   struct hadlephoga_deal deal = deal_of_all_grounds(400000);
   struct hadlephoga_terms terms = deal.terms;
   struct hadlephoga_collateral pledge = paper(10000);
   struct hadlephoga_guarantee guarantee = promise(20000);
+  struct hadlephoga_swap swap = sent_swap(20000, 1);
   struct marked_report marked;
   size_t i;
 
   terms.residual_term = terms.lent_issue_life = LONGEST;
   pledge.issue_life = pledge.residual_term = pledge.original_term = LONGEST;
   guarantee.residual_term = guarantee.original_term = LONGEST;
+  swap.residual_term = swap.original_term = LONGEST;
   IS(hadlephoga_open_with(&terms, &deal), 0);
-  refused_days(&deal, pledge, guarantee);
+  refused_days(&deal, pledge, guarantee, swap);
   for (i = 0; i < HADLEPHOGA_ITEMS; i++) {
     IS(hadlephoga_add_collateral_to(&deal, &pledge), 0);
-    IS(hadlephoga_add_guarantee_to(&deal, &guarantee), 0);
+    IS(i % 2 == 0 ? hadlephoga_add_guarantee_to(&deal, &guarantee) : hadlephoga_add_swap_to(&deal, &swap), 0);
   }
   IS(deal.terms.residual_term, LONGEST);
   IS(deal.terms.lent_issue_life, LONGEST);
@@ -618,6 +797,36 @@ static const char two_deals_of_2023[] =
     "CRM\t3\n"
     "D\t1000\t2\t0\t1\t978\t3\t1\t1800\t1\t0\t0\n"
     "D\t500\t2\t7\t1\t840\t1\t1\t30\t1\t0\t0\n";
+
+/* A line S under headers 1 and 2: 60 percent of the deal's 1,000, or with the
+ * condition the whole, at weight 20; the rest at 150. */
+static void answers_of_swaps(void)
+{
+  static const char *const books[] = {
+      "CRM\t1\n"
+      "D\t1000\t3\t5\t978\t3\t1\t1800\t1\t0\t0\n"
+      "S\t1001\t2\t1\t978\t1800\t1800\t1\t1\t1\t0\n"
+      "D\t1000\t3\t5\t978\t3\t1\t1800\t1\t0\t0\n"
+      "S\t1001\t2\t1\t978\t1800\t1800\t1\t1\t1\t1\n",
+      "CRM\t2\n"
+      "D\t1000\t3\t5\t6\t978\t3\t1\t1800\t1\t0\t0\n"
+      "S\t1001\t2\t1\t6\t978\t1800\t1800\t1\t1\t1\t0\n"
+      "D\t1000\t3\t5\t6\t978\t3\t1\t1800\t1\t0\t0\n"
+      "S\t1001\t2\t1\t6\t978\t1800\t1800\t1\t1\t1\t1\n",
+  };
+  struct hadlephoga_answer answers[2];
+  uint64_t deals;
+  size_t i;
+
+  for (i = 0; i < sizeof books / sizeof books[0]; i++) {
+    IS(hadlephoga_answers((const uint8_t *)books[i], strlen(books[i]), answers, 2, &deals), 0);
+    IS(deals, 2);
+    IS(answers[0].refusal, 0);
+    IS(answers[0].weighted_amount, 720);
+    IS(answers[1].refusal, 0);
+    IS(answers[1].weighted_amount, 200);
+  }
+}
 
 static void answers_of_two_deals(const char *text)
 {
@@ -673,12 +882,15 @@ static void longest_book(void)
 int main(void)
 {
   lengths();
+  places_of_sent_items();
   places_of_deal();
   places_of_report();
   places_of_answer();
   meanings();
   records_not_accepted();
   built();
+  swaps();
+  cut();
   floors();
   tables_of_2023();
   refused_sovereigns_and_editions();
@@ -686,6 +898,7 @@ int main(void)
   answers_of_two_deals(two_deals);
   answers_of_two_deals(two_deals_with_sovereigns);
   answers_of_two_deals(two_deals_of_2023);
+  answers_of_swaps();
   longest_book();
   return 0;
 }

@@ -32,6 +32,11 @@ extern "C" {
  *      edition too, 3 on a wrong sovereign's step. A program built for layout 1
  *      is refused, by 11, 13 or 40, wherever it passes terms, a guarantee or a
  *      record. Edition 3 came with this layout: it was refused before.
+ *   3  credit default swaps in the list of guarantees, and an item's instrument as
+ *      the last of its numbers in a record: item 11, record 366. A guarantee is
+ *      still added by ten numbers. Refusal 40 now falls on an unknown instrument
+ *      too; a book's line S, which was 11, is taken. A program built for layout 2
+ *      is refused, by 13 or 40, wherever it passes a record.
  *
  * The rule of change. The layout is how many numbers there are of terms, of an
  * item, of a record and of a report, their order and what each of them means; the
@@ -42,26 +47,28 @@ extern "C" {
  * what was refused may be taken later. An operation that is new beside the others
  * leaves the number alone.
  */
-#define HADLEPHOGA_LAYOUT 2
+#define HADLEPHOGA_LAYOUT 3
 
 /* The layout of numbers that the library has. */
 uint64_t hadlephoga_layout(void);
 
 #define HADLEPHOGA_BOOK_LIMIT 65536 /* bytes of a book */
-#define HADLEPHOGA_ITEMS 16         /* places of collateral, and of guarantees */
+#define HADLEPHOGA_ITEMS 16         /* places of collateral, and of guarantees and swaps together */
 
 /* How many numbers there are of each. */
 #define HADLEPHOGA_ANSWER_LENGTH 4 /* that answer a deal of a book */
 #define HADLEPHOGA_TERMS_WIDTH 12
 #define HADLEPHOGA_COLLATERAL_WIDTH 11
-#define HADLEPHOGA_GUARANTEE_WIDTH 10
+#define HADLEPHOGA_GUARANTEE_WIDTH 10                                    /* as it is sent */
+#define HADLEPHOGA_SWAP_WIDTH (HADLEPHOGA_GUARANTEE_WIDTH + 1)           /* as it is sent */
+#define HADLEPHOGA_HELD_GUARANTEE_WIDTH (HADLEPHOGA_GUARANTEE_WIDTH + 1) /* either, in a record */
 #define HADLEPHOGA_OUTCOME_WIDTH 2 /* that report an item of collateral */
-#define HADLEPHOGA_COVER_WIDTH 3   /* that report a guarantee */
+#define HADLEPHOGA_COVER_WIDTH 3   /* that report a guarantee or a swap */
 
 /* Of a record: the terms, and each list's count and places. */
 #define HADLEPHOGA_RECORD_LENGTH \
   (HADLEPHOGA_TERMS_WIDTH + 1 + HADLEPHOGA_ITEMS * HADLEPHOGA_COLLATERAL_WIDTH + \
-   1 + HADLEPHOGA_ITEMS * HADLEPHOGA_GUARANTEE_WIDTH)
+   1 + HADLEPHOGA_ITEMS * HADLEPHOGA_HELD_GUARANTEE_WIDTH)
 
 /* Of a report: E*, both lists' places, the rest and the weighted amount. */
 #define HADLEPHOGA_REPORT_LENGTH \
@@ -113,17 +120,25 @@ uint64_t hadlephoga_add_collateral(uint64_t *record, size_t record_length,
                                    const uint64_t *item, size_t item_length);
 
 /* The same of a guarantee, HADLEPHOGA_GUARANTEE_WIDTH and struct
- * hadlephoga_guarantee. */
+ * hadlephoga_guarantee. Its place has the instrument 0. */
 uint64_t hadlephoga_add_guarantee(uint64_t *record, size_t record_length,
                                   const uint64_t *item, size_t item_length);
+
+/* The same of a credit default swap, HADLEPHOGA_SWAP_WIDTH and struct
+ * hadlephoga_swap. Guarantees and swaps share the sixteen places, in one order of
+ * adding: 6 where together they are sixteen. 8 falls on the further condition as on
+ * the others. Its place has the instrument 1 + that condition's entry. */
+uint64_t hadlephoga_add_swap(uint64_t *record, size_t record_length,
+                             const uint64_t *item, size_t item_length);
 
 /*
  * Reports one deal. Returns the first that applies:
  *
  *   13  report_length is below HADLEPHOGA_REPORT_LENGTH: nothing is written
  *   40  record_length is not HADLEPHOGA_RECORD_LENGTH, a list count is above
- *       sixteen, or a field of the deal or of a counted item is one that opening
- *       or adding refuses (1 to 5, 7, 8): a report of zeros is written
+ *       sixteen, a field of the deal or of a counted item is one that opening or
+ *       adding refuses (1 to 5, 7, 8), or a counted item's instrument is above 2:
+ *       a report of zeros is written
  *    0  otherwise: the report is written
  *
  * record has the layout of struct hadlephoga_deal, report that of struct
@@ -179,7 +194,7 @@ struct hadlephoga_collateral {
   uint64_t listed;        /* senior bank paper; counts for type 4 at step 0 alone */
 };
 
-/* A guarantee. */
+/* A guarantee, as it is sent. */
 struct hadlephoga_guarantee {
   uint64_t amount;
   uint64_t provider_class; /* 1 sovereign, 2 bank or securities firm, 3 other entity */
@@ -191,6 +206,46 @@ struct hadlephoga_guarantee {
   uint64_t lawful;
   uint64_t direct;
   uint64_t unreflected; /* not already in the rating used */
+};
+
+/* A credit default swap, as it is sent: the numbers of a guarantee and one
+ * condition more. Where that is not met, the swap's amount is first cut to
+ * min(swap's amount, deal's amount) x 60 / 100, rounded down, the deal's amount
+ * being the one in its terms; currency and maturity follow as for a guarantee.
+ * Where it is met, the whole amount counts, above the deal's too. In all else a
+ * swap is a guarantee: its grounds, and its turn in the order of weight. */
+struct hadlephoga_swap {
+  uint64_t amount;
+  uint64_t provider_class;
+  uint64_t step;
+  uint64_t sovereign_step;
+  uint64_t currency;
+  uint64_t residual_term;
+  uint64_t original_term;
+  uint64_t lawful;
+  uint64_t direct;
+  uint64_t unreflected;
+  uint64_t restructuring; /* is a credit event */
+};
+
+/* Instruments: what a place of the list of guarantees holds. */
+#define HADLEPHOGA_GUARANTEE_INSTRUMENT 0
+#define HADLEPHOGA_SWAP_WITHOUT_RESTRUCTURING 1
+#define HADLEPHOGA_SWAP_WITH_RESTRUCTURING 2
+
+/* A guarantee or a swap, as a record holds it. */
+struct hadlephoga_held_guarantee {
+  uint64_t amount;
+  uint64_t provider_class;
+  uint64_t step;
+  uint64_t sovereign_step;
+  uint64_t currency;
+  uint64_t residual_term;
+  uint64_t original_term;
+  uint64_t lawful;
+  uint64_t direct;
+  uint64_t unreflected;
+  uint64_t instrument; /* 0, 1 or 2; another is 40 */
 };
 
 /* The terms of a deal. */
@@ -214,8 +269,8 @@ struct hadlephoga_deal {
   struct hadlephoga_terms terms;
   uint64_t collateral_count;
   struct hadlephoga_collateral collateral[HADLEPHOGA_ITEMS];
-  uint64_t guarantee_count;
-  struct hadlephoga_guarantee guarantees[HADLEPHOGA_ITEMS];
+  uint64_t guarantee_count; /* of guarantees and swaps together */
+  struct hadlephoga_held_guarantee guarantees[HADLEPHOGA_ITEMS];
 };
 
 /* What an item of collateral is worth. The ground is 0 where it is valued;
@@ -228,8 +283,8 @@ struct hadlephoga_outcome {
   uint64_t ground;
 };
 
-/* What a guarantee is worth, and the part of E* that it covers. Grounds: 21, 27
- * not direct, 23, 28 other entity unrated, 25, 26, 29 provider's weight not
+/* What a guarantee or a swap is worth, and the part of E* that it covers. Grounds:
+ * 21, 27 not direct, 23, 28 other entity unrated, 25, 26, 29 provider's weight not
  * below the counterparty's, both with their floors. */
 struct hadlephoga_cover {
   uint64_t value;
@@ -258,6 +313,9 @@ HADLEPHOGA_ASSERT(sizeof(struct hadlephoga_terms) == HADLEPHOGA_TERMS_WIDTH * si
 HADLEPHOGA_ASSERT(sizeof(struct hadlephoga_collateral) == HADLEPHOGA_COLLATERAL_WIDTH * sizeof(uint64_t),
                   "an item of collateral");
 HADLEPHOGA_ASSERT(sizeof(struct hadlephoga_guarantee) == HADLEPHOGA_GUARANTEE_WIDTH * sizeof(uint64_t), "a guarantee");
+HADLEPHOGA_ASSERT(sizeof(struct hadlephoga_swap) == HADLEPHOGA_SWAP_WIDTH * sizeof(uint64_t), "a swap");
+HADLEPHOGA_ASSERT(sizeof(struct hadlephoga_held_guarantee) == HADLEPHOGA_HELD_GUARANTEE_WIDTH * sizeof(uint64_t),
+                  "a guarantee or a swap in a record");
 HADLEPHOGA_ASSERT(sizeof(struct hadlephoga_deal) == HADLEPHOGA_RECORD_LENGTH * sizeof(uint64_t), "a record");
 HADLEPHOGA_ASSERT(sizeof(struct hadlephoga_outcome) == HADLEPHOGA_OUTCOME_WIDTH * sizeof(uint64_t), "an outcome");
 HADLEPHOGA_ASSERT(sizeof(struct hadlephoga_cover) == HADLEPHOGA_COVER_WIDTH * sizeof(uint64_t), "a cover");
@@ -295,6 +353,13 @@ static inline uint64_t hadlephoga_add_guarantee_to(struct hadlephoga_deal *deal,
 {
   return hadlephoga_add_guarantee((uint64_t *)deal, HADLEPHOGA_RECORD_LENGTH,
                                   (const uint64_t *)item, HADLEPHOGA_GUARANTEE_WIDTH);
+}
+
+/* hadlephoga_add_swap of structs; 0, 40 or 1 to 8. */
+static inline uint64_t hadlephoga_add_swap_to(struct hadlephoga_deal *deal, const struct hadlephoga_swap *item)
+{
+  return hadlephoga_add_swap((uint64_t *)deal, HADLEPHOGA_RECORD_LENGTH,
+                             (const uint64_t *)item, HADLEPHOGA_SWAP_WIDTH);
 }
 
 /* hadlephoga_report_deal of a struct; 0 or 40. */

@@ -6,6 +6,7 @@ use mathlib.Core.List.{List, [], _∷_, _++_, map}
 use native.Mathlib.Omega.{arith}
 use lib.ListN.{getD, set}
 use Rattle.deal.specs.Fields.{collateralFields, guaranteeFields, termsFields}
+use Rattle.deal.specs.Instruments.{asSwap, swapWithoutRestructuring}
 use Rattle.deal.specs.Records.{accepted}
 use Rattle.deal.specs.declared.terms.Terms.{Terms}
 use Rattle.deal.specs.declared.collateral.Collateral.{Collateral}
@@ -13,7 +14,7 @@ use Rattle.deal.specs.declared.guarantee.Guarantee.{Guarantee}
 use Rattle.deal.specs.declared.deal.Deal.{Deal}
 use Rattle.betterment.specs.Places.{changedCollateral, changedGuarantee, changedTerms, collateralPlaces, guaranteePlaces, intervalPlace, lentStepPlace}
 use Rattle.deal.specs.Views.{View, viewOf, acceptedView}
-use Rattle.betterment.specs.Betterments.{OneOf, BetterItem, BetterCollateral, BetterGuarantee, BetterTerms, OneChanged, OneMore, Better, Betterments}
+use Rattle.betterment.specs.Betterments.{OneOf, BetterItem, BetterCollateral, BetterGuarantee, better-number, restructuring-met, BetterTerms, OneChanged, OneMore, Better, Betterments}
 
 -- the places are those of the fields that the paper names
 abbrev at : List ℕ → List ℕ → List ℕ
@@ -113,33 +114,38 @@ module _ (t : Terms) (cs : List Collateral) (front back : List Guarantee) (g : G
   guarantee-to {g′} b = Better.better-guarantee (changed-at (BetterGuarantee (t .currency)) front back g g′ b)
 
   pub guarantee-amount : (new : ℕ) → g .amount < new → GuaranteeTo (changedGuarantee 0 new g)
-  guarantee-amount new h = guarantee-to (BetterItem.higher OneOf.here new (omega arith))
+  guarantee-amount new h = guarantee-to (better-number (BetterItem.higher OneOf.here new (omega arith)))
 
   pub guarantee-residual : (new : ℕ) → g .residual < new → GuaranteeTo (changedGuarantee 5 new g)
-  guarantee-residual new h = guarantee-to (BetterItem.higher (OneOf.later OneOf.here) new (omega arith))
+  guarantee-residual new h = guarantee-to (better-number (BetterItem.higher (OneOf.later OneOf.here) new (omega arith)))
 
   pub guarantee-original : (new : ℕ) → g .original < new → GuaranteeTo (changedGuarantee 6 new g)
-  guarantee-original new h = guarantee-to (BetterItem.higher (OneOf.later (OneOf.later OneOf.here)) new (omega arith))
+  guarantee-original new h = guarantee-to (better-number (BetterItem.higher (OneOf.later (OneOf.later OneOf.here)) new (omega arith)))
 
   pub guarantee-step : (new : ℕ) → 1 ≤ new → new < g .provider .step → g .provider .step ≤ 6 → GuaranteeTo (changedGuarantee 2 new g)
-  guarantee-step new one less six = guarantee-to (BetterItem.smaller-step OneOf.here new (omega arith))
+  guarantee-step new one less six = guarantee-to (better-number (BetterItem.smaller-step OneOf.here new (omega arith)))
 
   -- "A better step of a guarantor's sovereign, between rated steps" (02: L5)
   pub guarantee-sovereign : (new : ℕ) → 1 ≤ new → new < g .provider .«sovereign_step» → g .provider .«sovereign_step» ≤ 6 → GuaranteeTo (changedGuarantee 3 new g)
-  guarantee-sovereign new one less six = guarantee-to (BetterItem.smaller-step (OneOf.later OneOf.here) new (omega arith))
+  guarantee-sovereign new one less six = guarantee-to (better-number (BetterItem.smaller-step (OneOf.later OneOf.here) new (omega arith)))
 
   pub guarantee-currency : GuaranteeTo (changedGuarantee 4 (t .currency) g)
-  guarantee-currency = guarantee-to (BetterItem.deal-currency OneOf.here)
+  guarantee-currency = guarantee-to (better-number (BetterItem.deal-currency OneOf.here))
 
   pub guarantee-lawful : g .lawful ≡ 0 → GuaranteeTo (changedGuarantee 7 1 g)
-  guarantee-lawful e = guarantee-to (BetterItem.now-met OneOf.here e)
+  guarantee-lawful e = guarantee-to (better-number (BetterItem.now-met OneOf.here e))
 
   pub guarantee-direct : g .direct ≡ 0 → GuaranteeTo (changedGuarantee 8 1 g)
-  guarantee-direct e = guarantee-to (BetterItem.now-met (OneOf.later OneOf.here) e)
+  guarantee-direct e = guarantee-to (better-number (BetterItem.now-met (OneOf.later OneOf.here) e))
 
   pub guarantee-not-in-rating : g .«not_in_rating» ≡ 0 → GuaranteeTo (changedGuarantee 9 1 g)
-  guarantee-not-in-rating e = guarantee-to (BetterItem.now-met (OneOf.later (OneOf.later OneOf.here)) e)
+  guarantee-not-in-rating e = guarantee-to (better-number (BetterItem.now-met (OneOf.later (OneOf.later OneOf.here)) e))
 
+  -- "this condition": a swap's restructuring from 0 to 1 (02: L1)
+  pub swap-restructuring : g .instrument ≡ swapWithoutRestructuring → GuaranteeTo (asSwap 1 g)
+  swap-restructuring e = guarantee-to (restructuring-met e)
+
+  -- one more guarantee, or swap
   pub guarantees-more : Better (view t cs (front ++ back)) (view t cs (front ++ g ∷ back))
   guarantees-more = Better.more-guarantees (more-at front back g)
 

@@ -17,7 +17,7 @@ use Rattle.relief.proofs.Computed.{computed}
 use Rattle.relief.specs.Report.{reportOf}
 use Rattle.betterment.specs.Places.{changedCollateral, changedGuarantee, changedTerms, intervalPlace}
 use Rattle.deal.specs.Views.{View, viewOf, acceptedView, recordOf}
-use Rattle.betterment.specs.Betterments.{OneOf, BetterItem, BetterCollateral, BetterGuarantee, BetterTerms, OneChanged, OneMore, Better, Betterments}
+use Rattle.betterment.specs.Betterments.{OneOf, BetterItem, BetterCollateral, BetterGuarantee, better-number, restructuring-met, BetterTerms, OneChanged, OneMore, Better, Betterments}
 use Rattle.betterment.proofs.Theorem.{betterments-never-raise}
 
 -- the first deal of 01, The book: a loan of 1,000,000, sovereign debt of 400,000 and a sovereign's guarantee of 200,000
@@ -50,7 +50,12 @@ backing = record {
   lawful = 1;
   direct = 1;
   «not_in_rating» = 1;
+  instrument = 0;
 }
+
+-- the same as a swap of which restructuring is no credit event
+abbrev swap : Guarantee
+swap = changedGuarantee 10 1 backing
 
 abbrev deal : Terms → List Collateral → List Guarantee → Deal
 deal t cs gs = recordOf (record { terms = t; collateral = cs; guarantees = gs })
@@ -63,6 +68,10 @@ amount d = reportOf d .rwa
 book : amount (deal loan (debt ∷ []) (backing ∷ [])) ≡ 411314
 unfolding amount
 book = refl
+
+swapped : amount (deal loan (debt ∷ []) (swap ∷ [])) ∷ amount (deal loan (debt ∷ []) (changedGuarantee 10 2 swap ∷ [])) ∷ [] ≡ 491314 ∷ 411314 ∷ []
+unfolding amount
+swapped = refl
 
 -- one betterment, from a deal to the deal that is proposed
 record Case : Type 0 where
@@ -114,22 +123,38 @@ cases =
     ++ of-collateral (BetterItem.now-met {x = changedCollateral 9 0 debt} (OneOf.later (OneOf.later OneOf.here)) refl)
     -- bank debt, unrated
     ++ of-collateral (BetterItem.now-met {x = pledge 4 0} (OneOf.later (OneOf.later (OneOf.later OneOf.here))) refl)
-    ++ of-guarantee (BetterItem.higher {x = changedGuarantee 0 100000 backing} OneOf.here 200000 (omega arith))
-    ++ of-guarantee (BetterItem.higher {x = changedGuarantee 5 900 backing} (OneOf.later OneOf.here) 1800 (omega arith))
-    ++ of-guarantee (BetterItem.higher {x = changedGuarantee 6 359 (changedGuarantee 5 300 backing)} (OneOf.later (OneOf.later OneOf.here)) 360 (omega arith))
-    ++ of-guarantee (BetterItem.smaller-step {x = changedGuarantee 2 3 backing} OneOf.here 2 (omega arith))
-    ++ of-guarantee (BetterItem.deal-currency {x = changedGuarantee 4 840 backing} OneOf.here)
-    ++ of-guarantee (BetterItem.now-met {x = changedGuarantee 7 0 backing} OneOf.here refl)
-    ++ of-guarantee (BetterItem.now-met {x = changedGuarantee 8 0 backing} (OneOf.later OneOf.here) refl)
-    ++ of-guarantee (BetterItem.now-met {x = changedGuarantee 9 0 backing} (OneOf.later (OneOf.later OneOf.here)) refl)
+    ++ of-guarantee (better-number (BetterItem.higher {x = changedGuarantee 0 100000 backing} OneOf.here 200000 (omega arith)))
+    ++ of-guarantee (better-number (BetterItem.higher {x = changedGuarantee 5 900 backing} (OneOf.later OneOf.here) 1800 (omega arith)))
+    ++ of-guarantee (better-number (BetterItem.higher {x = changedGuarantee 6 359 (changedGuarantee 5 300 backing)} (OneOf.later (OneOf.later OneOf.here)) 360 (omega arith)))
+    ++ of-guarantee (better-number (BetterItem.smaller-step {x = changedGuarantee 2 3 backing} OneOf.here 2 (omega arith)))
+    ++ of-guarantee (better-number (BetterItem.deal-currency {x = changedGuarantee 4 840 backing} OneOf.here))
+    ++ of-guarantee (better-number (BetterItem.now-met {x = changedGuarantee 7 0 backing} OneOf.here refl))
+    ++ of-guarantee (better-number (BetterItem.now-met {x = changedGuarantee 8 0 backing} (OneOf.later OneOf.here) refl))
+    ++ of-guarantee (better-number (BetterItem.now-met {x = changedGuarantee 9 0 backing} (OneOf.later (OneOf.later OneOf.here)) refl))
     -- an unrated bank under a sovereign of step 4, then of step 2: 100 and 50, for an unrated corporate under one of step 6, which weighs 150
-    ++ of-floored (BetterItem.smaller-step {x = guaranteeIn (200000 ∷ 2 ∷ 0 ∷ 4 ∷ 978 ∷ 1800 ∷ 1800 ∷ 1 ∷ 1 ∷ 1 ∷ [])} (OneOf.later OneOf.here) 2 (omega arith))
+    ++ of-floored (better-number (BetterItem.smaller-step {x = guaranteeIn (200000 ∷ 2 ∷ 0 ∷ 4 ∷ 978 ∷ 1800 ∷ 1800 ∷ 1 ∷ 1 ∷ 1 ∷ [])} (OneOf.later OneOf.here) 2 (omega arith)))
+    -- the same of a swap, whose 200,000 count as 120,000 without its condition; and the condition
+    ++ of-guarantee (better-number (BetterItem.higher {x = changedGuarantee 0 100000 swap} OneOf.here 200000 (omega arith)))
+    ++ of-guarantee (better-number (BetterItem.higher {x = changedGuarantee 5 900 swap} (OneOf.later OneOf.here) 1800 (omega arith)))
+    ++ of-guarantee (better-number (BetterItem.higher {x = changedGuarantee 6 359 (changedGuarantee 5 300 swap)} (OneOf.later (OneOf.later OneOf.here)) 360 (omega arith)))
+    ++ of-guarantee (better-number (BetterItem.smaller-step {x = changedGuarantee 2 3 swap} OneOf.here 2 (omega arith)))
+    ++ of-guarantee (better-number (BetterItem.deal-currency {x = changedGuarantee 4 840 swap} OneOf.here))
+    ++ of-guarantee (better-number (BetterItem.now-met {x = changedGuarantee 7 0 swap} OneOf.here refl))
+    ++ of-guarantee (better-number (BetterItem.now-met {x = changedGuarantee 8 0 swap} (OneOf.later OneOf.here) refl))
+    ++ of-guarantee (better-number (BetterItem.now-met {x = changedGuarantee 9 0 swap} (OneOf.later (OneOf.later OneOf.here)) refl))
+    ++ of-floored (better-number (BetterItem.smaller-step {x = guaranteeIn (200000 ∷ 2 ∷ 0 ∷ 4 ∷ 978 ∷ 1800 ∷ 1800 ∷ 1 ∷ 1 ∷ 1 ∷ 1 ∷ [])} (OneOf.later OneOf.here) 2 (omega arith)))
+    ++ of-guarantee (restructuring-met {g = swap} refl)
+    -- and where it is met
+    ++ of-guarantee (better-number (BetterItem.higher {x = changedGuarantee 0 100000 (changedGuarantee 10 2 swap)} OneOf.here 200000 (omega arith)))
     -- sovereign debt lent under a repo
     ++ of-terms (BetterTerms.smaller-lent-step {t = termsIn (1000000 ∷ 3 ∷ 0 ∷ 0 ∷ 978 ∷ 1 ∷ 1 ∷ 1800 ∷ 2 ∷ 4 ∷ 720 ∷ 1 ∷ [])} 1 (omega arith))
     ++ of-terms (BetterTerms.smaller-interval {t = changedTerms intervalPlace 250 loan} 1 (omega arith))
     -- one more item, in front of another and behind it
     ++ record { old = deal loan (debt ∷ []) []; new = deal loan (pledge 2 3 ∷ debt ∷ []) []; better = Better.more-collateral OneMore.here }
     ∷ record { old = deal loan (debt ∷ []) []; new = deal loan (debt ∷ pledge 2 3 ∷ []) []; better = Better.more-collateral (OneMore.later OneMore.here) }
+    ∷ record { old = deal loan [] (backing ∷ []); new = deal loan [] (swap ∷ backing ∷ []); better = Better.more-guarantees OneMore.here }
+    ∷ record { old = deal loan [] (backing ∷ []); new = deal loan [] (backing ∷ swap ∷ []); better = Better.more-guarantees (OneMore.later OneMore.here) }
+    ∷ record { old = deal loan [] (swap ∷ swap ∷ []); new = deal loan [] (swap ∷ changedGuarantee 10 2 swap ∷ swap ∷ []); better = Better.more-guarantees (OneMore.later OneMore.here) }
     ∷ record { old = deal loan [] (backing ∷ []); new = deal loan [] (changedGuarantee 2 2 backing ∷ backing ∷ []); better = Better.more-guarantees OneMore.here }
     ∷ record { old = deal loan [] (backing ∷ []); new = deal loan [] (backing ∷ changedGuarantee 2 2 backing ∷ []); better = Better.more-guarantees (OneMore.later OneMore.here) }
     ∷ []

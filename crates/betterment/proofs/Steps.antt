@@ -15,12 +15,12 @@ use Rattle.deal.specs.declared.terms.Terms.{Terms}
 use Rattle.deal.specs.declared.collateral.Collateral.{Collateral}
 use Rattle.deal.specs.declared.guarantee.Guarantee.{Guarantee}
 use Rattle.relief.specs.Exposure.{riskWeightedAmountOf}
-use Rattle.relief_laws.proofs.NoWorse.{SameOrBetter, SameOrDeals, NoLowerCollateral, NoLowerGuarantee, NoWorseTerms, NoWorseCollateral, NoWorseGuarantee, NoLess, none, kept, more}
+use Rattle.relief_laws.proofs.NoWorse.{SameOrBetter, SameOrDeals, SameOrNowMet, NoLowerCollateral, NoLowerGuarantee, NoWorseTerms, NoWorseCollateral, NoWorseGuarantee, NoLess, none, kept, more}
 use Rattle.relief_laws.proofs.Amounts.{amount-no-higher}
-use Rattle.deal.specs.Fields.{collateralFields, guaranteeFields}
+use Rattle.deal.specs.Fields.{collateralFields, guaranteeFields, guaranteeIn}
 use Rattle.deal.specs.Views.{View, acceptedView}
 use Rattle.betterment.specs.Betterments.{SmallerStep, OneOf, BetterItem, BetterCollateral, BetterGuarantee, BetterTerms, OneChanged, OneMore, Better}
-use Rattle.betterment.specs.Places.{changedCollateral, changedGuarantee}
+use Rattle.betterment.specs.Places.{changedCollateral, changedGuarantee, guaranteePlaces}
 use Rattle.deal_laws.proofs.Views.{FitsView, view-fits, collateralFits, guaranteeFits}
 
 -- a smaller step is a better one
@@ -70,25 +70,45 @@ module _ {currency : ℕ} where
       ((λ h q. no-worse-collateral p q (omega arith) (inl refl) (inl refl)), ((λ h q. no-worse-collateral p q (omega arith) (inl refl) (inl refl)), ((λ h q. no-worse-collateral p q (omega arith) (inl refl) (inl refl)), ((λ h q. no-worse-collateral p q (omega arith) (inl refl) (inl refl)), tt)))) m e p′
 
   no-worse-guarantee : {g g′ : Guarantee} → PlainGuarantee g → PlainGuarantee g′ → NoLowerGuarantee g g′ → SameOrBetter (g .provider .step) (g′ .provider .step) →
-      SameOrBetter (g .provider .«sovereign_step») (g′ .provider .«sovereign_step») → SameOrDeals currency (g .currency) (g′ .currency) → NoWorseGuarantee currency g g′
-  no-worse-guarantee p p′ f s k m = record { before = p; after = p′; fields = f; step = s; «sovereign_step» = k; currency = m }
+      SameOrBetter (g .provider .«sovereign_step») (g′ .provider .«sovereign_step») → SameOrDeals currency (g .currency) (g′ .currency) →
+      SameOrNowMet (g .instrument) (g′ .instrument) → NoWorseGuarantee currency g g′
+  no-worse-guarantee p p′ f s k m i = record { before = p; after = p′; fields = f; step = s; «sovereign_step» = k; currency = m; instrument = i }
 
   same-guarantee : {g : Guarantee} → PlainGuarantee g → NoWorseGuarantee currency g g
-  same-guarantee p = no-worse-guarantee p p (omega arith) (inl refl) (inl refl) (inl refl)
+  same-guarantee p = no-worse-guarantee p p (omega arith) (inl refl) (inl refl) (inl refl) (inl refl)
+
+  changed-number : {g g′ : Guarantee} → BetterItem guaranteeFields guaranteeIn guaranteePlaces currency g g′ → PlainGuarantee g → PlainGuarantee g′ → NoWorseGuarantee currency g g′
+  changed-number {g} (BetterItem.higher m new h) p p′ =
+      each-of (λ k. getD (guaranteeFields g) k 0 < new → PlainGuarantee (changedGuarantee k new g) → NoWorseGuarantee currency g (changedGuarantee k new g))
+      ((λ h q. no-worse-guarantee p q (omega arith) (inl refl) (inl refl) (inl refl) (inl refl)), ((λ h q. no-worse-guarantee p q (omega arith) (inl refl) (inl refl) (inl refl) (inl refl)), ((λ h q. no-worse-guarantee p q (omega arith) (inl refl) (inl refl) (inl refl) (inl refl)), tt))) m h p′
+  changed-number {g} (BetterItem.smaller-step m new s) p p′ =
+      each-of (λ k. SmallerStep (getD (guaranteeFields g) k 0) new → PlainGuarantee (changedGuarantee k new g) → NoWorseGuarantee currency g (changedGuarantee k new g))
+      ((λ h q. no-worse-guarantee p q (omega arith) (smaller h) (inl refl) (inl refl) (inl refl)), ((λ h q. no-worse-guarantee p q (omega arith) (inl refl) (smaller h) (inl refl) (inl refl)), tt)) m s p′
+  changed-number {g} (BetterItem.deal-currency m) p p′ =
+      each-of (λ k. PlainGuarantee (changedGuarantee k currency g) → NoWorseGuarantee currency g (changedGuarantee k currency g))
+      ((λ q. no-worse-guarantee p q (omega arith) (inl refl) (inl refl) (inr refl) (inl refl)), tt) m p′
+  changed-number {g} (BetterItem.now-met m e) p p′ =
+      each-of (λ k. getD (guaranteeFields g) k 0 ≡ 0 → PlainGuarantee (changedGuarantee k 1 g) → NoWorseGuarantee currency g (changedGuarantee k 1 g))
+      ((λ h q. no-worse-guarantee p q (omega arith) (inl refl) (inl refl) (inl refl) (inl refl)), ((λ h q. no-worse-guarantee p q (omega arith) (inl refl) (inl refl) (inl refl) (inl refl)), ((λ h q. no-worse-guarantee p q (omega arith) (inl refl) (inl refl) (inl refl) (inl refl)), tt))) m e p′
 
   changed-guarantee : {g g′ : Guarantee} → BetterGuarantee currency g g′ → PlainGuarantee g → PlainGuarantee g′ → NoWorseGuarantee currency g g′
-  changed-guarantee {g} (BetterItem.higher m new h) p p′ =
-      each-of (λ k. getD (guaranteeFields g) k 0 < new → PlainGuarantee (changedGuarantee k new g) → NoWorseGuarantee currency g (changedGuarantee k new g))
-      ((λ h q. no-worse-guarantee p q (omega arith) (inl refl) (inl refl) (inl refl)), ((λ h q. no-worse-guarantee p q (omega arith) (inl refl) (inl refl) (inl refl)), ((λ h q. no-worse-guarantee p q (omega arith) (inl refl) (inl refl) (inl refl)), tt))) m h p′
-  changed-guarantee {g} (BetterItem.smaller-step m new s) p p′ =
-      each-of (λ k. SmallerStep (getD (guaranteeFields g) k 0) new → PlainGuarantee (changedGuarantee k new g) → NoWorseGuarantee currency g (changedGuarantee k new g))
-      ((λ h q. no-worse-guarantee p q (omega arith) (smaller h) (inl refl) (inl refl)), ((λ h q. no-worse-guarantee p q (omega arith) (inl refl) (smaller h) (inl refl)), tt)) m s p′
-  changed-guarantee {g} (BetterItem.deal-currency m) p p′ =
-      each-of (λ k. PlainGuarantee (changedGuarantee k currency g) → NoWorseGuarantee currency g (changedGuarantee k currency g))
-      ((λ q. no-worse-guarantee p q (omega arith) (inl refl) (inl refl) (inr refl)), tt) m p′
-  changed-guarantee {g} (BetterItem.now-met m e) p p′ =
-      each-of (λ k. getD (guaranteeFields g) k 0 ≡ 0 → PlainGuarantee (changedGuarantee k 1 g) → NoWorseGuarantee currency g (changedGuarantee k 1 g))
-      ((λ h q. no-worse-guarantee p q (omega arith) (inl refl) (inl refl) (inl refl)), ((λ h q. no-worse-guarantee p q (omega arith) (inl refl) (inl refl) (inl refl)), ((λ h q. no-worse-guarantee p q (omega arith) (inl refl) (inl refl) (inl refl)), tt))) m e p′
+  changed-guarantee (BetterGuarantee.better-number b) p p′ = changed-number b p p′
+  changed-guarantee (BetterGuarantee.restructuring-met e) p p′ = no-worse-guarantee p p′ (omega arith) (inl refl) (inl refl) (inl refl) (inr (e, refl))
+
+-- A GUARANTEE NEVER BECOMES A SWAP, nor a swap a guarantee; and a condition that is met stays met
+abbrev Stays : Guarantee → ℕ → ℕ → Type 0
+Stays g new k = changedGuarantee k new g .instrument ≡ g .instrument
+
+module _ {currency : ℕ} {g : Guarantee} where
+  number-stays : {g′ : Guarantee} → BetterItem guaranteeFields guaranteeIn guaranteePlaces currency g g′ → g′ .instrument ≡ g .instrument
+  number-stays (BetterItem.higher m new h) = each-of (Stays g new) (refl, (refl, (refl, tt))) m
+  number-stays (BetterItem.smaller-step m new h) = each-of (Stays g new) (refl, (refl, tt)) m
+  number-stays (BetterItem.deal-currency m) = each-of (Stays g currency) (refl, tt) m
+  number-stays (BetterItem.now-met m h) = each-of (Stays g 1) (refl, (refl, (refl, tt))) m
+
+  pub instrument-stays : {g′ : Guarantee} → BetterGuarantee currency g g′ → SameOrNowMet (g .instrument) (g′ .instrument)
+  instrument-stays (BetterGuarantee.better-number b) = inl (number-stays b)
+  instrument-stays (BetterGuarantee.restructuring-met e) = inr (e, refl)
 
 -- Lists of items that pass a test
 

@@ -1,4 +1,4 @@
--- Betterments of a deal, lists of them, and demand 3. 01: Betterments; 02: L5
+-- Betterments of a deal, lists of them, and demand 3. 01: Betterments; 02: L1, L5
 use Prim.Native.Nat.{ℕ, _≤_, _<_}
 use mathlib.Core.Path.{_≡_}
 use mathlib.Core.Bool.{true, false}
@@ -6,6 +6,7 @@ use mathlib.Core.List.{List, _∷_}
 use lib.ListN.{getD}
 use Rattle.tables.specs.Table.{Table}
 use Rattle.deal.specs.Fields.{collateralFields, collateralIn, guaranteeFields, guaranteeIn}
+use Rattle.deal.specs.Instruments.{asSwap, swapWithoutRestructuring}
 use Rattle.deal.specs.Records.{accepted, withoutProtection}
 use Rattle.deal.specs.declared.terms.Terms.{Terms}
 use Rattle.deal.specs.declared.collateral.Collateral.{Collateral}
@@ -44,8 +45,13 @@ pub data BetterItem {A : Type 0} (numbers : A → List ℕ) (read : List ℕ →
 abbrev pub BetterCollateral : ℕ → Collateral → Collateral → Type 0
 BetterCollateral = BetterItem collateralFields collateralIn collateralPlaces
 
-abbrev pub BetterGuarantee : ℕ → Guarantee → Guarantee → Type 0
-BetterGuarantee = BetterItem guaranteeFields guaranteeIn guaranteePlaces
+-- "The rule on betterments now includes swaps and this condition" (02: L1)
+pub data BetterGuarantee (currency : ℕ) : Guarantee → Guarantee → Type 0 where
+  -- of a guarantee or a swap, which stays what it is
+  better-number : {g g′ : Guarantee} → BetterItem guaranteeFields guaranteeIn guaranteePlaces currency g g′ → BetterGuarantee currency g g′
+  -- of a swap, restructuring from 0 to 1
+  restructuring-met : {g : Guarantee} → g .instrument ≡ swapWithoutRestructuring →
+      BetterGuarantee currency g (asSwap 1 g)
 
 -- "a smaller step .. of the goods lent"; "a smaller interval"
 pub data BetterTerms : Terms → Terms → Type 0 where

@@ -1,5 +1,5 @@
--- Which numbers of terms and items betterments change, by their places in the order of sending (deal/specs/Fields; that each
--- place is the field of its name: `collateral-named`, `guarantee-named`, `terms-named`). 01: Betterments
+-- Which numbers of terms and items betterments change, by their places in a record (deal/specs/Fields; that each
+-- place is the field of its name: `collateral-named`, `guarantee-named`, `terms-named`). 01: Betterments; 02: L1, L5
 use Prim.Native.Nat.{ℕ}
 use mathlib.Core.List.{List, [], _∷_}
 use lib.ListN.{set}

@@ -20,7 +20,7 @@ use Rattle.relief.proofs.Computed.{computed}
 use Rattle.lines.specs.Numbers.{digitsOf, numberAllowed, numberRead, numberOf}
 use Rattle.lines.specs.Fields.{fieldOf, isEnd, andThen, withNumber, fieldsOf}
 use Rattle.lines.specs.Sovereign.{widthUnder, withSovereign}
-use Rattle.lines.specs.Lines.{dealLine, collateralLine, guaranteeLine, ifRead, lineOf}
+use Rattle.lines.specs.Lines.{dealLine, collateralLine, guaranteeLine, swapLine, ifRead, lineOf}
 use Rattle.book.specs.Deals.{opensDeal, ownLines, dealsFrom}
 use Rattle.book.specs.Answers.{openingRefusal, openedBy, lineRefusal, withLine, refusedAt, reported, linesAnswer, dealAnswer, answersFrom}
 use Rattle.book.specs.Heading.{headingOf}
@@ -30,7 +30,7 @@ use Rattle.book.specs.declared.reply.BookReply.{BookReply}
 
 -- `unfolding worked` opens every definition that an answer comes from
 unfoldable pub worked : List ℕ → List ℕ → List ℕ
-unfolding computed openedDeal reportRefusal collateralListTests guaranteeListTests addCollateralTests addCollateralRefusal withCollateral addGuaranteeTests addGuaranteeRefusal withGuarantee firstOr within if_then_else_ startsWith sameBytes extendFirst linesOf firstLine decimalFrom digitsOf numberAllowed numberRead numberOf fieldOf isEnd andThen withNumber fieldsOf widthUnder withSovereign dealLine collateralLine guaranteeLine ifRead lineOf ownLines dealsFrom openingRefusal openedBy lineRefusal withLine refusedAt reported linesAnswer dealAnswer answersFrom headingOf bookTests bookRefusal answeredDeals bookReply resultsAfter
+unfolding computed openedDeal reportRefusal collateralListTests guaranteeListTests addCollateralTests addCollateralRefusal withCollateral addGuaranteeTests addGuaranteeRefusal withGuarantee firstOr within if_then_else_ startsWith sameBytes extendFirst linesOf firstLine decimalFrom digitsOf numberAllowed numberRead numberOf fieldOf isEnd andThen withNumber fieldsOf widthUnder withSovereign dealLine collateralLine guaranteeLine swapLine ifRead lineOf ownLines dealsFrom openingRefusal openedBy lineRefusal withLine refusedAt reported linesAnswer dealAnswer answersFrom headingOf bookTests bookRefusal answeredDeals bookReply resultsAfter
 worked book before = resultsAfter book before
 
 abbrev pub example : List ℕ

@@ -19,7 +19,7 @@ use Rattle.book.specs.Deals.{DealLines}
 abbrev pub malformedLine : ℕ
 malformedLine = 11
 
--- how the line that opens a deal is refused, or 0. It begins with D and a tab, so it never reads as a line C or G
+-- how the line that opens a deal is refused, or 0. It begins with D and a tab, so it never reads as a line C, G or S
 unfoldable pub openingRefusal : Line → ℕ
 openingRefusal (DealLine terms) = termsRefusal terms
 openingRefusal (CollateralLine c) = malformedLine

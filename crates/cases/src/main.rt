@@ -42,7 +42,7 @@ fn run(
     let end = fields::numbers(line, &mut numbers);
     let letter = line[0];
     match letter {
-        b'o' | b'c' | b'g' => operations::change(letter, record, lent[0], &numbers, end),
+        b'o' | b'c' | b'g' | b'd' => operations::change(letter, record, lent[0], &numbers, end),
         b'r' => operations::report(record, lent[0], lent[1]),
         b'l' => {
             lent[0] = numbers[1];

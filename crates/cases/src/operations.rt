@@ -20,7 +20,8 @@ fn changed(letter: u8, list: &mut [u64], numbers: &[u64]) -> u64 {
     match letter {
         b'o' => hadlephoga::hadlephoga_open_deal(numbers, list),
         b'c' => hadlephoga::hadlephoga_add_collateral(list, numbers),
-        _ => hadlephoga::hadlephoga_add_guarantee(list, numbers),
+        b'g' => hadlephoga::hadlephoga_add_guarantee(list, numbers),
+        _ => hadlephoga::hadlephoga_add_swap(list, numbers),
     }
 }
 

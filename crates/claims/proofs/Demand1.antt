@@ -12,6 +12,7 @@ use Rattle.base.specs.Range.{within}
 use Rattle.base.proofs.Choice.{either, if-true}
 use Rattle.base.proofs.FirstMet.{exact, first-holds, met-first}
 use Rattle.base.proofs.Tests.{not-true, told-not-false}
+use Rattle.deal.specs.Instruments.{asSwap}
 use Rattle.deal.specs.Adding.{addCollateralRefusal, addCollateralTests, addGuaranteeRefusal, addGuaranteeTests, withCollateral, withGuarantee}
 use Rattle.deal.specs.Answers.{answerNumber}
 use Rattle.deal.specs.Assets.{assetStepAllowed, lifeAllowed}
@@ -213,6 +214,7 @@ demand-1 = record {
   opening = opening-numbers;
   adding-collateral = collateral-numbers;
   adding-guarantee = guarantee-numbers;
+  adding-swap = λ d r g. guarantee-numbers d (asSwap r g);
   reporting = report-numbers;
   report-says = report-said;
   book = book-numbers;
@@ -221,16 +223,19 @@ demand-1 = record {
   opening-due = opening-exact;
   collateral-due = collateral-exact;
   guarantee-due = guarantee-exact;
+  swap-due = λ d r g. guarantee-exact d (asSwap r g);
   reporting-due = report-due;
   book-due = book-exact;
   opened = new-accepted;
   collateral-added = λ d c e. (collateral-added-accepted d c e, collateral-made d c e);
   guarantee-added = λ d g e. (guarantee-added-accepted d g e, guarantee-made d g e);
+  swap-added = λ d r g e. (guarantee-added-accepted d (asSwap r g) e, guarantee-made d (asSwap r g) e);
   list-written = accepted-results;
   deals-counted = book-counted;
   no-deal = refused-not-accepted;
   collateral-kept = collateral-refused;
   guarantee-kept = guarantee-refused;
+  swap-kept = λ d r g e. guarantee-refused d (asSwap r g) e;
   report-zeros = λ d e. report-refused (tableFor (d .terms)) d e;
   list-kept = refused-results;
 }

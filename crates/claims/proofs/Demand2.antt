@@ -18,6 +18,7 @@ use Rattle.deal.specs.Records.{accepted}
 use Rattle.deal.specs.Views.{viewOf}
 use Rattle.deal.specs.declared.terms.Terms.{Terms}
 use Rattle.deal.specs.declared.deal.Deal.{Deal}
+use Rattle.valuation.proofs.PartialRecognition.{partial-is}
 use Rattle.relief.specs.Exposure.{adjustedExposureOf, collateralTotal, exposureAfter, piecesOf, riskWeightedAmountOf}
 use Rattle.relief.specs.Weights.{counterpartyWeightOf}
 use Rattle.relief.proofs.ByNumber.{collateral-by-number, guarantees-by-number}
@@ -89,6 +90,7 @@ demand-2 = record {
   bands = λ goods step life. (by-bands (haircut goods step) (haircut-sample goods step) life, by-bands (lentHaircut goods step) (lent-sample goods step) life);
   scaling = scaled-is;
   value-down = adjusted-value-is;
+  cut-down = partial-is;
   exposure-up = adjusted-exposure-is;
   weighted-up = risk-weighted-is;
   collateral-ground = λ t c. collateral-ground (tableFor t) t c;

@@ -6,6 +6,7 @@ use native.Mathlib.Omega.{arith}
 use Rattle.tables.specs.Table.{Table, TableLaws}
 use Rattle.tables.proofs.Laws.{lawful}
 use Rattle.betterment.specs.Betterments.{NeverRaisedUnder}
+use Rattle.betterment.proofs.Steps.{instrument-stays}
 use Rattle.betterment.proofs.Theorem.{betterments-never-raise, betterments-under, reached-accepted}
 use Rattle.claims.specs.Demand3.{Demand3}
 
@@ -14,6 +15,7 @@ demand-3 = record {
   still-accepted = λ before after a list. reached-accepted a list;
   than-before = λ before after a list. betterments-never-raise before after a list .0;
   than-unprotected = λ before after a list. betterments-never-raise before after a list .1;
+  instruments-stay = λ currency g g′ b. instrument-stays b;
   never-raised = betterments-never-raise;
   under-any-tables = λ table laws. betterments-under laws;
   every-edition = lawful;

@@ -1,3 +1,4 @@
+pub mod CreditDerivatives
 pub mod Demand1
 pub mod Demand2
 pub mod Demand3

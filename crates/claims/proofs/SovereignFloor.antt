@@ -21,7 +21,7 @@ use Rattle.text.proofs.Equal.{same-equal}
 use Rattle.deal.specs.Assets.{goodsKnown}
 use Rattle.deal.specs.Checks.{fieldTests}
 use Rattle.deal.specs.Editions.{editionKnown, tableFor}
-use Rattle.deal.specs.Fields.{guaranteeIn, termsIn, termsUnder}
+use Rattle.deal.specs.Fields.{guaranteeIn, guaranteeSent, termsIn, termsUnder}
 use Rattle.deal.specs.Guarantees.{guaranteeChecks, guaranteeRefusal, guaranteeTests}
 use Rattle.deal.specs.Parties.{counterpartyKnown, partyStepAllowed, partyStepsAllowed, sovereignStepAllowed}
 use Rattle.deal.specs.Ranges.{amountAllowed, daysLimit}
@@ -139,7 +139,7 @@ deal-line-2 : (rest : List ℕ) → lineOf 2 (byte "D" ∷ rest) ≡ ifRead (λ 
 unfolding lineOf dealLine widthUnder withSovereign if_then_else_
 deal-line-2 rest = refl
 
-guarantee-line-2 : (rest : List ℕ) → lineOf 2 (byte "G" ∷ rest) ≡ ifRead (λ fields. GuaranteeLine (guaranteeIn fields)) (fieldsOf 10 rest)
+guarantee-line-2 : (rest : List ℕ) → lineOf 2 (byte "G" ∷ rest) ≡ ifRead (λ fields. GuaranteeLine (guaranteeSent fields)) (fieldsOf 10 rest)
 unfolding lineOf guaranteeLine widthUnder withSovereign if_then_else_
 guarantee-line-2 rest = refl
 

@@ -34,7 +34,7 @@ use Rattle.relief.specs.Collateral.{combinedHaircutOf}
 use Rattle.relief.specs.Exposure.{scaledLentHaircut}
 use Rattle.relief.specs.Report.{reportOf}
 use Rattle.lines.specs.Fields.{fieldsOf}
-use Rattle.lines.specs.Lines.{dealLine, guaranteeLine, ifRead, lineOf}
+use Rattle.lines.specs.Lines.{dealLine, guaranteeLine, ifRead, lineOf, swapLine}
 use Rattle.lines.specs.Sovereign.{widthUnder, withSovereign}
 use Rattle.lines.specs.declared.line.Line.the-variants.{DealLine}
 use Rattle.book.specs.Book.{bookEdition, resultsAfter}
@@ -66,7 +66,7 @@ unfolding lineOf dealLine widthUnder withSovereign if_then_else_
 deal-line-3 rest = refl
 
 other-line-3 : (letter : ℕ) (rest : List ℕ) → eqb letter (byte "D") ≡ false → lineOf 3 (letter ∷ rest) ≡ lineOf 2 (letter ∷ rest)
-unfolding lineOf guaranteeLine widthUnder withSovereign if_then_else_
+unfolding lineOf guaranteeLine swapLine widthUnder withSovereign if_then_else_
 other-line-3 letter rest n = rw n
 
 empty-line-3 : lineOf 3 [] ≡ lineOf 2 []

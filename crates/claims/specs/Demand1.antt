@@ -3,7 +3,8 @@
 --
 -- The contract of each operation asks nothing of the caller and says that the answer is the definition named here:
 --   opening a deal     `deal::deal::Deal::open`                             termsRefusal, openedDeal
---   adding an item     `deal::deal::Deal::add_collateral`, `add_guarantee`  addCollateralRefusal, withCollateral and the like
+--   adding an item     `deal::deal::Deal::add_collateral`, `add_guarantee`,
+--                      `add_swap`                                           addCollateralRefusal, withCollateral and the like
 --   reporting a deal   `relief::report::Report::of`                         reportRefusal, reportOf
 --   answering a book   `book::answer::answer_book`                          bookReply, resultsAfter
 -- What follows is proved of those definitions, for every input whatever. Calls on numbers (crate hadlephoga) go through the same operations:
@@ -14,12 +15,13 @@ use mathlib.Core.Bool.{Bool, true, false, _||_}
 use mathlib.Core.List.{List, [], _∷_}
 use lib.Dec.{eqb}
 use lib.ListN.{getD, length}
-use Rattle.base.specs.FirstMet.{Exact}
+use Rattle.base.specs.FirstMet.{ExactFor}
 use Rattle.base.specs.Writing.{overwrite}
-use Rattle.deal.specs.Adding.{addCollateralRefusal, addCollateralTests, addGuaranteeRefusal, addGuaranteeTests, withCollateral, withGuarantee}
+use Rattle.deal.specs.Adding.{addCollateralRefusal, addCollateralTests, addGuaranteeRefusal, addGuaranteeTests, addSwapRefusal, withCollateral, withGuarantee, withSwap}
 use Rattle.deal.specs.Answers.{answerNumber}
 use Rattle.deal.specs.Collateral.{appendCollateral}
 use Rattle.deal.specs.Guarantees.{appendGuarantee}
+use Rattle.deal.specs.Instruments.{asSwap}
 use Rattle.deal.specs.Opening.{openedDeal}
 use Rattle.deal.specs.Records.{accepted, dealOf}
 use Rattle.deal.specs.Terms.{termsRefusal, termsTests}
@@ -52,6 +54,7 @@ pub record Demand1 : Type 0 where
   -- and so does adding
   pub adding-collateral : (d : Deal) (c : Collateral) → Among (0 ∷ 40 ∷ 6 ∷ 1 ∷ 2 ∷ 3 ∷ 4 ∷ 5 ∷ 7 ∷ 8 ∷ []) (addCollateralRefusal d c)
   pub adding-guarantee : (d : Deal) (g : Guarantee) → Among (0 ∷ 40 ∷ 6 ∷ 1 ∷ 2 ∷ 3 ∷ 4 ∷ 5 ∷ 7 ∷ 8 ∷ []) (addGuaranteeRefusal d g)
+  pub adding-swap : (d : Deal) (restructuring : ℕ) (g : Guarantee) → Among (0 ∷ 40 ∷ 6 ∷ 1 ∷ 2 ∷ 3 ∷ 4 ∷ 5 ∷ 7 ∷ 8 ∷ []) (addSwapRefusal d restructuring g)
   -- reporting answers 0 or 40, and its report says which
   pub reporting : (d : Deal) → Among (0 ∷ 40 ∷ []) (reportRefusal d)
   pub report-says : (d : Deal) → answerNumber (reportOf d .answer) ≡ reportRefusal d
@@ -65,11 +68,12 @@ pub record Demand1 : Type 0 where
 
   -- a refusal is given exactly where its own test is met and none before it, and 0 exactly where none is met. What each test asks is read in
   -- deal/specs (Terms, Collateral, Guarantees, with Ranges, Parties, Assets) and book/specs/Book
-  pub opening-due : (t : Terms) → Exact (termsTests t)
-  pub collateral-due : (d : Deal) (c : Collateral) → Exact (addCollateralTests d c)
-  pub guarantee-due : (d : Deal) (g : Guarantee) → Exact (addGuaranteeTests d g)
+  pub opening-due : (t : Terms) → ExactFor (termsRefusal t) (termsTests t)
+  pub collateral-due : (d : Deal) (c : Collateral) → ExactFor (addCollateralRefusal d c) (addCollateralTests d c)
+  pub guarantee-due : (d : Deal) (g : Guarantee) → ExactFor (addGuaranteeRefusal d g) (addGuaranteeTests d g)
+  pub swap-due : (d : Deal) (restructuring : ℕ) (g : Guarantee) → ExactFor (addSwapRefusal d restructuring g) (addGuaranteeTests d (asSwap restructuring g))
   pub reporting-due : (d : Deal) → (reportRefusal d ≡ 40 → accepted d ≡ false) × (accepted d ≡ false → reportRefusal d ≡ 40)
-  pub book-due : (text : List ℕ) (places : ℕ) → Exact (bookTests text places)
+  pub book-due : (text : List ℕ) (places : ℕ) → ExactFor (bookRefusal text places) (bookTests text places)
   -- WHAT IS NOT REFUSED
 
   -- gives an accepted deal, and adding changes only the next place and that list's count
@@ -78,6 +82,9 @@ pub record Demand1 : Type 0 where
       (accepted (withCollateral d c) ≡ true) × (withCollateral d c ≡ dealOf (d .terms) (appendCollateral (d .collateral) c) (d .guarantees))
   pub guarantee-added : (d : Deal) (g : Guarantee) → addGuaranteeRefusal d g ≡ 0 →
       (accepted (withGuarantee d g) ≡ true) × (withGuarantee d g ≡ dealOf (d .terms) (d .collateral) (appendGuarantee (d .guarantees) g))
+  pub swap-added : (d : Deal) (restructuring : ℕ) (g : Guarantee) → addSwapRefusal d restructuring g ≡ 0 →
+      (accepted (withSwap d restructuring g) ≡ true)
+      × (withSwap d restructuring g ≡ dealOf (d .terms) (d .collateral) (appendGuarantee (d .guarantees) (asSwap restructuring g)))
   -- four numbers a deal are written from the front of the list, and nothing behind them
   pub list-written : (text list : List ℕ) → bookRefusal text (length list) ≡ 0 → resultsAfter text list ≡ overwrite (answersFrom (bookEdition text) 1 (dealsOf text)) list
   pub deals-counted : (text : List ℕ) (places : ℕ) → bookRefusal text places ≡ 0 → bookReply text places .deals ≡ length (dealsOf text)
@@ -88,6 +95,7 @@ pub record Demand1 : Type 0 where
   -- a refused addition leaves the deal as it was
   pub collateral-kept : (d : Deal) (c : Collateral) → eqb (addCollateralRefusal d c) 0 ≡ false → withCollateral d c ≡ d
   pub guarantee-kept : (d : Deal) (g : Guarantee) → eqb (addGuaranteeRefusal d g) 0 ≡ false → withGuarantee d g ≡ d
+  pub swap-kept : (d : Deal) (restructuring : ℕ) (g : Guarantee) → eqb (addSwapRefusal d restructuring g) 0 ≡ false → withSwap d restructuring g ≡ d
   -- a refused report is all zeros beside the 40
   pub report-zeros : (d : Deal) → accepted d ≡ false → reportOf d ≡ refusedReport
   -- a refused book leaves every number of the results list as it was

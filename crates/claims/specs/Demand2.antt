@@ -6,7 +6,7 @@
 -- `book::answer::answer_book` says that a book's answers are made of those figures. docs/TRACE.md goes from each sentence of document 01 to its
 -- definition. The cells of the tables of 2019, the minimum holding periods and the like are read in those definitions and not proved. Under edition 2
 -- weights have the floor of 02: L5 (claims/specs/SovereignFloor); under edition 3 figures are those of 02: L9, "demand 2 means it for these
--- members" (claims/specs/Tables2023). What follows is proved of the definitions, for deals of every edition.
+-- members" (claims/specs/Tables2023). What of a swap is hedged is 02: L1 (claims/specs/CreditDerivatives). What follows is proved of the definitions, for deals of every edition.
 use Prim.Native.Nat.{ℕ, _+_, _*_, _-_, _≤_, _<_, min}
 use mathlib.Core.Path.{_≡_}
 use mathlib.Core.Logic.{_≢_}
@@ -22,6 +22,7 @@ use Rattle.tables.specs.Table.{Goods}
 use Rattle.scaling.specs.Scaling.{IsScaled, scaled}
 use Rattle.valuation.specs.Exposure.{riskWeightedAmount, volatilityAdjustedExposure}
 use Rattle.valuation.specs.Protection.{keepShare, mismatched, volatilityAdjustedValue}
+use Rattle.valuation.specs.Restructuring.{partiallyRecognised}
 use Rattle.cover.specs.Cover.{covered, weightedSum}
 use Rattle.cover.specs.declared.protection.Protection.{Protection}
 use Rattle.cover_laws.specs.Sorted.{pass, sort}
@@ -85,12 +86,16 @@ pub record Demand2 : Type 0 where
       let T = min term 1800 in
       let t = min T cover in
       (mismatched value cover term * (T - 90) ≤ value * (t - 90)) × (value * (t - 90) < (mismatched value cover term + 1) * (T - 90))
+  -- .. and so is, before both, the amount of a swap without the restructuring condition ..
+  pub cut-down : (amount dealAmount : ℕ) →
+      (partiallyRecognised amount dealAmount * 100 ≤ min amount dealAmount * 60)
+      × (min amount dealAmount * 60 < (partiallyRecognised amount dealAmount + 1) * 100)
   -- .. the exposure and the weighted amount are the least that are enough
   pub exposure-up : (amount haircut : ℕ) → Least (λ m. amount * (1000000 + haircut) ≤ m * 1000000) (volatilityAdjustedExposure amount haircut)
   pub weighted-up : (sum : ℕ) → Least (λ m. sum ≤ m * 100) (riskWeightedAmount sum)
   -- COVER
 
-  -- guarantees cover in rising order of weight, equal weights in order of adding: as a stable sort and one pass over it
+  -- guarantees and swaps cover in a single rising order of weight, equal weights in order of adding: as a stable sort and one pass over it
   pub rising-order : (E : ℕ) (pieces : List Protection) → sort (covered E pieces) ≡ pass E (sort pieces)
   -- GROUNDS
 

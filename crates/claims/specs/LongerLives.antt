@@ -13,7 +13,7 @@ use lib.Dec.{eqb}
 use lib.ListN.{getD, replicate}
 use Rattle.deal.specs.Adding.{addCollateralRefusal, addGuaranteeRefusal, withCollateral, withGuarantee}
 use Rattle.deal.specs.Collateral.{collateralRefusal}
-use Rattle.deal.specs.Fields.{collateralIn, guaranteeIn, termsIn}
+use Rattle.deal.specs.Fields.{collateralIn, guaranteeSent, termsIn}
 use Rattle.deal.specs.Guarantees.{guaranteeRefusal}
 use Rattle.deal.specs.Opening.{openedDeal}
 use Rattle.deal.specs.Ranges.{daysAllowed, daysLimit}
@@ -39,8 +39,8 @@ sevenPlaces =
     ∷ (λ n. collateralRefusal (collateralIn (5 ∷ 2 ∷ 1 ∷ n ∷ 978 ∷ 1 ∷ 1 ∷ 1 ∷ 1 ∷ 1 ∷ 0 ∷ [])))
     ∷ (λ n. collateralRefusal (collateralIn (5 ∷ 1 ∷ 0 ∷ 0 ∷ 978 ∷ n ∷ n ∷ 1 ∷ 1 ∷ 1 ∷ 0 ∷ [])))
     ∷ (λ n. collateralRefusal (collateralIn (5 ∷ 1 ∷ 0 ∷ 0 ∷ 978 ∷ 1 ∷ n ∷ 1 ∷ 1 ∷ 1 ∷ 0 ∷ [])))
-    ∷ (λ n. guaranteeRefusal (guaranteeIn (5 ∷ 3 ∷ 6 ∷ 0 ∷ 978 ∷ n ∷ n ∷ 1 ∷ 1 ∷ 1 ∷ [])))
-    ∷ (λ n. guaranteeRefusal (guaranteeIn (5 ∷ 3 ∷ 6 ∷ 0 ∷ 978 ∷ 1 ∷ n ∷ 1 ∷ 1 ∷ 1 ∷ [])))
+    ∷ (λ n. guaranteeRefusal (guaranteeSent (5 ∷ 3 ∷ 6 ∷ 0 ∷ 978 ∷ n ∷ n ∷ 1 ∷ 1 ∷ 1 ∷ [])))
+    ∷ (λ n. guaranteeRefusal (guaranteeSent (5 ∷ 3 ∷ 6 ∷ 0 ∷ 978 ∷ 1 ∷ n ∷ 1 ∷ 1 ∷ 1 ∷ [])))
     ∷ []
 
 -- what a limit that rises leaves as it was

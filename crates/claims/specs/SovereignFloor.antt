@@ -2,7 +2,9 @@
 -- larger of its own weight and the sovereign's; an unrated other entity still has ground 28. The header's second field becomes 2, and a
 -- book headed 1 reads as before with no floor."
 --
--- `beforeFloor` is the set of rules before this request, each as it stood (earlier/specs/BeforeFloor). What ends in By is a definition of opening,
+-- `beforeFloor` is the set of rules before this request, each as it stood, but that it has lines S and swaps, which came later (02: L1), as they are
+-- today (earlier/specs/BeforeFloor): what is said here of lines, records and books before means these among them, and what they change is said in
+-- claims/specs/CreditDerivatives. What ends in By is a definition of opening,
 -- adding, reporting or answering a book by a set of rules (earlier/specs/Deals, earlier/specs/Books); by the rules in force it is the one
 -- that contracts name, as the fields ending in -now say. What the request did not touch (values, grounds, cover, rounding, the deals of a
 -- book) is today's definition on both sides, and is not compared. Demand 3 speaks of deals of every edition, a guarantor's sovereign's step among
@@ -19,7 +21,7 @@ use Rattle.text.specs.Bytes.{byte, bytes}
 use Rattle.text.specs.Text.{firstLine, sameBytes}
 use Rattle.deal.specs.Adding.{addCollateralRefusal, addGuaranteeRefusal, withCollateral, withGuarantee}
 use Rattle.deal.specs.Editions.{editionKnown, tableFor}
-use Rattle.deal.specs.Fields.{guaranteeIn, termsUnder}
+use Rattle.deal.specs.Fields.{guaranteeSent, termsUnder}
 use Rattle.deal.specs.Guarantees.{guaranteeChecks, guaranteeRefusal}
 use Rattle.deal.specs.Opening.{openedDeal}
 use Rattle.deal.specs.Parties.{sovereignStepAllowed}
@@ -149,7 +151,7 @@ pub record SovereignFloor : Type 0 where
   -- a book headed 2 is not wrongly headed, and has edition 2; its lines hold the sovereign's step in the fourth place
   pub headed-2 : (book : List ℕ) → sameBytes (firstLine book) (bytes "CRM\t2\n") ≡ true → (isWrong (headingOf (firstLine book)) ≡ false) × (bookEdition book ≡ 2)
   pub deal-line-2 : (rest : List ℕ) → lineOf 2 (byte "D" ∷ rest) ≡ ifRead (λ fields. DealLine (termsUnder 2 fields)) (fieldsOf 11 rest)
-  pub guarantee-line-2 : (rest : List ℕ) → lineOf 2 (byte "G" ∷ rest) ≡ ifRead (λ fields. GuaranteeLine (guaranteeIn fields)) (fieldsOf 10 rest)
+  pub guarantee-line-2 : (rest : List ℕ) → lineOf 2 (byte "G" ∷ rest) ≡ ifRead (λ fields. GuaranteeLine (guaranteeSent fields)) (fieldsOf 10 rest)
   pub collateral-line-2 : (rest : List ℕ) → lineOf 2 (byte "C" ∷ rest) ≡ lineOf 1 (byte "C" ∷ rest)
   -- an unknown edition is refused by 2, behind 1
   pub editions-known : map editionKnown (0 ∷ 1 ∷ 2 ∷ 3 ∷ 4 ∷ []) ≡ false ∷ true ∷ true ∷ true ∷ false ∷ []

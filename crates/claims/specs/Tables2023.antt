@@ -3,7 +3,8 @@
 --
 -- `before2023` is the set of rules before this request (earlier/specs/Before2023); what ends in By is said by a set of rules, as in
 -- claims/specs/SovereignFloor, where the fields ending in -now show that by the rules in force it is what contracts name. What the request did not
--- touch (the figures of 2019, lines, the tests of items, values, grounds, cover, rounding) is today's definition on both sides, and is not compared.
+-- touch (the figures of 2019, lines, the tests of items, values, grounds, cover, rounding) is today's definition on both sides, and is not compared;
+-- so are lines S and swaps, which came later (02: L1; claims/specs/CreditDerivatives).
 -- "Prove the betterment rule from what any such table must have, and show each table has it" is in claims/specs/Demand3.
 use Prim.Native.Nat.{ℕ, _≤_, max}
 use mathlib.Core.Logic.{_⊎_}
@@ -26,7 +27,7 @@ use Rattle.scaling.specs.Scaling.{scaled}
 use Rattle.valuation.specs.Haircuts.{combinedHaircut}
 use Rattle.deal.specs.Adding.{addCollateralRefusal, addGuaranteeRefusal, withCollateral, withGuarantee}
 use Rattle.deal.specs.Editions.{tableFor}
-use Rattle.deal.specs.Fields.{guaranteeIn, termsIn, termsUnder}
+use Rattle.deal.specs.Fields.{guaranteeSent, termsIn, termsUnder}
 use Rattle.deal.specs.Opening.{openedDeal}
 use Rattle.deal.specs.Records.{accepted}
 use Rattle.deal.specs.Terms.{termsRefusal}
@@ -80,7 +81,7 @@ groundsOf class step providerClass providerStep =
     let sovereignStep : ℕ → ℕ = λ c. if eqb c bank || eqb c corporate then 1 else 0 in
     map (λ edition.
     let t = termsIn (1000 ∷ class ∷ step ∷ sovereignStep class ∷ 978 ∷ 3 ∷ 1 ∷ 1800 ∷ 1 ∷ 0 ∷ 0 ∷ edition ∷ []) in
-    guaranteeGround (tableFor t) t (guaranteeIn (500 ∷ providerClass ∷ providerStep ∷ sovereignStep providerClass ∷ 978 ∷ 1800 ∷ 1800 ∷ 1 ∷ 1 ∷ 1 ∷ [])))
+    guaranteeGround (tableFor t) t (guaranteeSent (500 ∷ providerClass ∷ providerStep ∷ sovereignStep providerClass ∷ 978 ∷ 1800 ∷ 1800 ∷ 1 ∷ 1 ∷ 1 ∷ [])))
     (1 ∷ 2 ∷ 3 ∷ [])
 
 -- fourteen deals headed 3, revalued daily, of kind 2 in which haircuts are those of the table

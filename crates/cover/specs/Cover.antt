@@ -8,7 +8,7 @@ use Rattle.base.specs.Sum.{sumOf}
 use Rattle.cover.specs.declared.protection.Protection.{Protection}
 use Rattle.cover.specs.declared.protection.Cover.{Cover}
 
--- the value of a guarantee that weighs less than w, and else 0; of one that weighs w, and else 0
+-- the value of a guarantee, or swap, that weighs less than w, and else 0; of one that weighs w, and else 0
 unfoldable pub lowerWeighted : ℕ → Protection → ℕ
 lowerWeighted w p = if ltb (p .weight) w then p .value else 0
 

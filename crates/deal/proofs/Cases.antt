@@ -43,7 +43,7 @@ fields-in-place :
       «not_in_rating» = 9;
       listed = 10;
     })
-    × (guaranteeIn (0 ∷ 1 ∷ 2 ∷ 3 ∷ 4 ∷ 5 ∷ 6 ∷ 7 ∷ 8 ∷ 9 ∷ []) ≡ record {
+    × (guaranteeIn (0 ∷ 1 ∷ 2 ∷ 3 ∷ 4 ∷ 5 ∷ 6 ∷ 7 ∷ 8 ∷ 9 ∷ 10 ∷ []) ≡ record {
       amount = 0;
       provider = record { class = 1; step = 2; «sovereign_step» = 3 };
       currency = 4;
@@ -52,6 +52,7 @@ fields-in-place :
       lawful = 7;
       direct = 8;
       «not_in_rating» = 9;
+      instrument = 10;
     }))
 fields-in-place = (refl, (refl, refl))
 
@@ -108,6 +109,7 @@ given amount class residual original direct = record {
   lawful = 1;
   direct = direct;
   «not_in_rating» = 1;
+  instrument = 0;
 }
 
 abbrev added : List ℕ

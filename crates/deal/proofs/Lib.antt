@@ -6,3 +6,4 @@ pub mod Lists
 pub mod Plain
 pub mod SameChecks
 pub mod Steps
+pub mod Swaps

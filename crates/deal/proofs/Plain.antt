@@ -67,6 +67,7 @@ pub record PlainGuarantee (g : Guarantee) : Type 0 where
   pub lawful : g .lawful ≤ 1
   pub direct : g .direct ≤ 1
   pub «not_in_rating» : g .«not_in_rating» ≤ 1
+  pub instrument : g .instrument ≤ 2
 
 -- a step is 0 or at most 6, whatever the class or type
 party-step : (p : Party) → partyStepAllowed p ≡ true → p .step ≤ 6
@@ -152,7 +153,9 @@ unfolding guaranteeRefusal guaranteeTests
 plain-guarantee g e =
     let n = none-exactly (guaranteeTests g) refl e in
     let days = both (daysAllowed daysLimit (g .residual)) _ (held _ (n .1 .1 .1 .1 .0)) in
-    let three = both (conditionAllowed (g .lawful) && conditionAllowed (g .direct)) _ (held _ (n .1 .1 .1 .1 .1 .1 .0)) in
+    let eighth = held _ (n .1 .1 .1 .1 .1 .1 .0) in
+    let four = both (conditionAllowed (g .lawful) && conditionAllowed (g .direct) && conditionAllowed (g .«not_in_rating»)) _ eighth in
+    let three = both (conditionAllowed (g .lawful) && conditionAllowed (g .direct)) _ (four .0) in
     let two = both (conditionAllowed (g .lawful)) _ (three .0) in
     let party = party-steps _ (held _ (n .1 .1 .0)) in
     record {
@@ -167,6 +170,7 @@ plain-guarantee g e =
       lawful = leb-true _ 1 (two .0);
       direct = leb-true _ 1 (two .1);
       «not_in_rating» = leb-true _ 1 (three .1);
+      instrument = leb-true _ 2 (four .1);
     }
 
 -- of a list that is allowed: its count, and each counted item

@@ -1,10 +1,11 @@
--- Adding an item to a deal. 01: The four operations, Adding an item
+-- Adding an item to a deal. 01: The four operations, Adding an item; 02: L1
 use Prim.Native.Nat.{ℕ}
 use mathlib.Core.Bool.{not}
 use mathlib.Core.List.{List, _∷_}
 use Rattle.base.specs.FirstMet.{Test, _when_, firstMet}
 use Rattle.deal.specs.Collateral.{appendCollateral, collateralListTests}
 use Rattle.deal.specs.Guarantees.{appendGuarantee, guaranteeListTests}
+use Rattle.deal.specs.Instruments.{asSwap}
 use Rattle.deal.specs.Lists.{unlessRefused}
 use Rattle.deal.specs.Records.{dealOf, recordAllowed}
 use Rattle.deal.specs.declared.collateral.Collateral.{Collateral}
@@ -18,6 +19,7 @@ recordTests d tests = 40 when not (recordAllowed d) ∷ tests
 unfoldable pub addCollateralTests : Deal → Collateral → List (Test ℕ)
 addCollateralTests d c = recordTests d (collateralListTests (d .collateral) c)
 
+-- an item of the list of guarantees: a guarantee, or the swap that its instrument says it is
 unfoldable pub addGuaranteeTests : Deal → Guarantee → List (Test ℕ)
 addGuaranteeTests d g = recordTests d (guaranteeListTests (d .guarantees) g)
 
@@ -33,3 +35,10 @@ withCollateral d c = unlessRefused (addCollateralRefusal d c) (dealOf (d .terms)
 
 unfoldable pub withGuarantee : Deal → Guarantee → Deal
 withGuarantee d g = unlessRefused (addGuaranteeRefusal d g) (dealOf (d .terms) (d .collateral) (appendGuarantee (d .guarantees) g)) d
+
+-- a swap: a guarantee's fields, and the entry of its further condition. "(A line S is refused as a G is.)"
+abbrev pub addSwapRefusal : Deal → ℕ → Guarantee → ℕ
+addSwapRefusal d restructuring g = addGuaranteeRefusal d (asSwap restructuring g)
+
+abbrev pub withSwap : Deal → ℕ → Guarantee → Deal
+withSwap d restructuring g = withGuarantee d (asSwap restructuring g)

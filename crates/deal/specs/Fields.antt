@@ -1,8 +1,9 @@
--- A deal's terms and its items from the numbers that are sent, in the order of 01: What a deal holds, and back again. Of lists of
+-- A deal's terms and its items from the numbers that are sent or held in a record, in the order of 01: What a deal holds, and back again. Of lists of
 -- so many numbers the two ways are inverse to each other (proofs/BothWays)
 use Prim.Native.Nat.{ℕ}
 use mathlib.Core.List.{List, [], _∷_}
 use lib.ListN.{getD}
+use Rattle.deal.specs.Instruments.{asSwap, guaranteeInstrument}
 use Rattle.deal.specs.declared.party.Party.{Party}
 use Rattle.deal.specs.declared.terms.Terms.{Terms}
 use Rattle.deal.specs.declared.collateral.Collateral.{Collateral}
@@ -15,8 +16,15 @@ termsWidth = 12
 abbrev pub collateralWidth : ℕ
 collateralWidth = 11
 
+-- as a record holds it, a guarantee or a swap; and as each of them is sent, which says what it is
 abbrev pub guaranteeWidth : ℕ
-guaranteeWidth = 10
+guaranteeWidth = 11
+
+abbrev pub sentGuaranteeWidth : ℕ
+sentGuaranteeWidth = 10
+
+abbrev pub sentSwapWidth : ℕ
+sentSwapWidth = 11
 
 -- class, step and sovereign's step of a party, which stand behind the amount of a deal and of a guarantee alike
 abbrev pub partyIn : List ℕ → Party
@@ -93,8 +101,8 @@ collateralFields c =
 
 -- "Guarantee: amount; provider class ..; step; currency; residual and original term; conditions: lawful, direct .., not already in the
 -- rating used"; the step of the provider's sovereign behind the step (02: L5)
-abbrev pub guaranteeIn : List ℕ → Guarantee
-guaranteeIn fields =
+abbrev pub guaranteeUnder : ℕ → List ℕ → Guarantee
+guaranteeUnder instrument fields =
     let field : ℕ → ℕ = λ k. getD fields k 0 in
     record {
       amount = field 0;
@@ -105,7 +113,20 @@ guaranteeIn fields =
       lawful = field 7;
       direct = field 8;
       «not_in_rating» = field 9;
+      instrument = instrument;
     }
+
+-- sent as a guarantee
+abbrev pub guaranteeSent : List ℕ → Guarantee
+guaranteeSent fields = guaranteeUnder guaranteeInstrument fields
+
+-- sent as a swap: "laid out as G with one more condition at the end: restructuring is a credit event" (02: L1)
+abbrev pub swapSent : List ℕ → Guarantee
+swapSent fields = asSwap (getD fields 10 0) (guaranteeSent fields)
+
+-- held in a record: the numbers of a guarantee, and behind them the instrument
+abbrev pub guaranteeIn : List ℕ → Guarantee
+guaranteeIn fields = guaranteeUnder (getD fields 10 0) fields
 
 abbrev pub guaranteeFields : Guarantee → List ℕ
 guaranteeFields g =
@@ -119,6 +140,7 @@ guaranteeFields g =
     ∷ g .lawful
     ∷ g .direct
     ∷ g .«not_in_rating»
+    ∷ g .instrument
     ∷ []
 
 -- no number is sent: zeros in every field

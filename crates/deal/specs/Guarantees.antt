@@ -1,4 +1,4 @@
--- Guarantees, and the list of them. 01: What a deal holds; The four operations, Adding an item
+-- Guarantees and swaps, and the list that they share. 01: What a deal holds; The four operations, Adding an item; 02: L1
 use Prim.Native.Nat.{ℕ, _+_}
 use mathlib.Core.Bool.{Bool, _&&_}
 use mathlib.Core.List.{List}
@@ -9,12 +9,14 @@ use Rattle.deal.specs.Ranges.{amountAllowed, conditionAllowed, currencyA
 use Rattle.deal.specs.Parties.{providerKnown, partyStepsAllowed}
 use Rattle.deal.specs.Checks.{fieldTests}
 use Rattle.deal.specs.Fields.{zeroGuarantee}
+use Rattle.deal.specs.Instruments.{instrumentAllowed}
 use Rattle.deal.specs.Lists.{counted, itemsWith, listAllowed, listLimit, listTests, unlessRefused}
 use Rattle.deal.specs.declared.checks.FieldChecks.{FieldChecks}
 use Rattle.deal.specs.declared.guarantee.Guarantee.{Guarantee}
 use Rattle.deal.specs.declared.guarantee.GuaranteeList.{GuaranteeList}
 
--- what adding asks of each field, under a limit of days, as of collateral
+-- what adding asks of each field, under a limit of days, as of collateral. "(A line S is refused as a G is.)": a swap's own condition is in its
+-- instrument, and one of those that 8 asks for
 abbrev pub guaranteeChecks : ℕ → Guarantee → FieldChecks
 guaranteeChecks limit g = record {
   amount = amountAllowed (g .amount);
@@ -23,7 +25,7 @@ guaranteeChecks limit g = record {
   currency = currencyAllowed (g .currency);
   ranges = daysAllowed limit (g .residual) && daysAllowed limit (g .original);
   maturity = leb (g .residual) (g .original);
-  conditions = conditionAllowed (g .lawful) && conditionAllowed (g .direct) && conditionAllowed (g .«not_in_rating»);
+  conditions = conditionAllowed (g .lawful) && conditionAllowed (g .direct) && conditionAllowed (g .«not_in_rating») && instrumentAllowed (g .instrument);
 }
 
 unfoldable pub guaranteeTests : Guarantee → List (Test ℕ)

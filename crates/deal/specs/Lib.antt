@@ -6,6 +6,7 @@ pub mod Collateral
 pub mod Editions
 pub mod Fields
 pub mod Guarantees
+pub mod Instruments
 pub mod Lists
 pub mod Opening
 pub mod Parties

@@ -1,10 +1,10 @@
-// A deal's record, how one is opened, and how collateral and guarantees are added to it.
+// A deal's record, how one is opened, and how collateral, guarantees and swaps are added to it.
 ghost use mathlib.Core.Path.{_≡_};
 ghost use Rattle.deal.specs.Answers.{answerNumber};
 ghost use Rattle.deal.specs.Terms.{termsRefusal};
 ghost use Rattle.deal.specs.Records.{accepted as acceptedOf, recordAllowed, withoutProtection};
 ghost use Rattle.deal.specs.Opening.{openedDeal};
-ghost use Rattle.deal.specs.Adding.{addCollateralRefusal, withCollateral, addGuaranteeRefusal, withGuarantee};
+ghost use Rattle.deal.specs.Adding.{addCollateralRefusal, withCollateral, addGuaranteeRefusal, withGuarantee, addSwapRefusal, withSwap};
 use crate::answer::Answer;
 use crate::collateral::Collateral;
 use crate::collateral::CollateralList;
@@ -96,7 +96,7 @@ impl Deal {
         DealReply { answer, deal: self }
     }
 
-    // One more guarantee; the same deal beside a refusal.
+    // One more item of the list of guarantees, whichever its instrument; the same deal beside a refusal.
     pub fn add_guarantee(mut self, item: Guarantee) -> DealReply
         ensures { λ r. ⌜ (answerNumber (r .answer) ≡ addGuaranteeRefusal self item) × (r .deal ≡ withGuarantee self item) ⌝ }
     {
@@ -112,5 +112,12 @@ impl Deal {
         self.guarantees = longer;
         let answer = added.answer;
         DealReply { answer, deal: self }
+    }
+
+    // One more swap, of a guarantee's fields and the entry of its further condition: 1 where restructuring is a credit event, or 0.
+    pub fn add_swap(self, item: Guarantee, restructuring: u64) -> DealReply
+        ensures { λ r. ⌜ (answerNumber (r .answer) ≡ addSwapRefusal self restructuring item) × (r .deal ≡ withSwap self restructuring item) ⌝ }
+    {
+        self.add_guarantee(item.as_swap(restructuring))
     }
 }

@@ -2,10 +2,11 @@
 ghost use mathlib.Core.Path.{_≡_};
 ghost use Prim.Native.Nat.{_≤_};
 ghost use lib.ListN.{length};
-ghost use Rattle.deal.specs.Fields.{collateralFields, collateralIn, collateralWidth, guaranteeFields, guaranteeIn, guaranteeWidth, partyIn, termsFields, termsIn, termsUnder, termsWidth};
+ghost use Rattle.deal.specs.Fields.{collateralFields, collateralIn, collateralWidth, guaranteeFields, guaranteeIn, guaranteeSent, guaranteeUnder, guaranteeWidth, partyIn, sentGuaranteeWidth, sentSwapWidth, swapSent, termsFields, termsIn, termsUnder, termsWidth};
 use crate::asset::Asset;
 use crate::collateral::Collateral;
 use crate::guarantee::Guarantee;
+use crate::instrument::GUARANTEE;
 use crate::party::Party;
 use crate::terms::Terms;
 
@@ -14,7 +15,13 @@ pub const TERMS_WIDTH: usize = 12;
 
 pub const COLLATERAL_WIDTH: usize = 11;
 
-pub const GUARANTEE_WIDTH: usize = 10;
+// As a record holds it, a guarantee or a swap.
+pub const GUARANTEE_WIDTH: usize = 11;
+
+// As each of them is sent.
+pub const SENT_GUARANTEE_WIDTH: usize = 10;
+
+pub const SENT_SWAP_WIDTH: usize = 11;
 
 // A party's, which stand in the same places of a deal and of a guarantee.
 fn party_in(fields: &[u64]) -> Party
@@ -77,9 +84,10 @@ pub fn collateral_in(fields: &[u64]) -> Collateral
     }
 }
 
-pub fn guarantee_in(fields: &[u64]) -> Guarantee
-    requires { ⌜ guaranteeWidth ≤ length (now fields) ⌝ }
-    ensures { λ r. ⌜ r ≡ guaranteeIn (now (fields .entry)) ⌝ }
+// What guarantees and swaps have alike.
+fn guarantee_under(instrument: u64, fields: &[u64]) -> Guarantee
+    requires { ⌜ sentGuaranteeWidth ≤ length (now fields) ⌝ }
+    ensures { λ r. ⌜ r ≡ guaranteeUnder instrument (now (fields .entry)) ⌝ }
 {
     Guarantee {
         amount: fields[0],
@@ -90,7 +98,33 @@ pub fn guarantee_in(fields: &[u64]) -> Guarantee
         lawful: fields[7],
         direct: fields[8],
         not_in_rating: fields[9],
+        instrument,
     }
+}
+
+// Sent as a guarantee.
+pub fn guarantee_sent(fields: &[u64]) -> Guarantee
+    requires { ⌜ sentGuaranteeWidth ≤ length (now fields) ⌝ }
+    ensures { λ r. ⌜ r ≡ guaranteeSent (now (fields .entry)) ⌝ }
+{
+    guarantee_under(GUARANTEE, fields)
+}
+
+// Sent as a swap.
+pub fn swap_sent(fields: &[u64]) -> Guarantee
+    requires { ⌜ sentSwapWidth ≤ length (now fields) ⌝ }
+    ensures { λ r. ⌜ r ≡ swapSent (now (fields .entry)) ⌝ }
+{
+    let sent = guarantee_sent(fields);
+    sent.as_swap(fields[10])
+}
+
+// Held in a record.
+pub fn guarantee_in(fields: &[u64]) -> Guarantee
+    requires { ⌜ guaranteeWidth ≤ length (now fields) ⌝ }
+    ensures { λ r. ⌜ r ≡ guaranteeIn (now (fields .entry)) ⌝ }
+{
+    guarantee_under(fields[10], fields)
 }
 
 pub fn terms_fields(terms: Terms) -> [u64; TERMS_WIDTH]
@@ -148,5 +182,6 @@ pub fn guarantee_fields(item: Guarantee) -> [u64; GUARANTEE_WIDTH]
         item.lawful,
         item.direct,
         item.not_in_rating,
+        item.instrument,
     ]
 }

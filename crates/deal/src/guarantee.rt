@@ -1,10 +1,14 @@
-// Guarantees, and the list of them that a deal holds.
+// Guarantees and credit default swaps, and the list of both that a deal holds.
 ghost use mathlib.Core.Path.{_≡_};
 ghost use Rattle.deal.specs.Answers.{answerNumber};
 ghost use Rattle.deal.specs.Guarantees.{emptyGuarantees, guaranteeListAllowed, guaranteeListRefusal, guaranteeListWith, guaranteeRefusal};
+ghost use Rattle.deal.specs.Instruments.{asSwap};
 use crate::answer::Answer;
 use crate::checks::FieldChecks;
 use crate::deal::Deal;
+use crate::instrument::GUARANTEE;
+use crate::instrument::instrument_allowed;
+use crate::instrument::swap_with;
 use crate::party::Party;
 use crate::ranges::amount_allowed;
 use crate::ranges::condition_allowed;
@@ -22,6 +26,8 @@ pub struct Guarantee {
     pub lawful: u64,
     pub direct: u64,
     pub not_in_rating: u64,
+    // A guarantee, or a swap with or without its further condition.
+    pub instrument: u64,
 }
 
 pub struct GuaranteeList {
@@ -49,7 +55,16 @@ impl Guarantee {
         lawful: 0,
         direct: 0,
         not_in_rating: 0,
+        instrument: GUARANTEE,
     };
+
+    // The swap with these fields. An entry that is neither 0 nor 1 gives no instrument.
+    pub fn as_swap(mut self, restructuring: u64) -> Guarantee
+        ensures { λ r. ⌜ r ≡ asSwap restructuring self ⌝ }
+    {
+        self.instrument = swap_with(restructuring);
+        self
+    }
 
     // The first refusal that its own fields meet.
     pub fn check(self) -> Answer
@@ -59,7 +74,8 @@ impl Guarantee {
         let ranges = days_allowed(self.residual) & days_allowed(self.original);
         let conditions = condition_allowed(self.lawful)
             & condition_allowed(self.direct)
-            & condition_allowed(self.not_in_rating);
+            & condition_allowed(self.not_in_rating)
+            & instrument_allowed(self.instrument);
         let checks = FieldChecks {
             amount: amount_allowed(self.amount),
             codes: provider.provider_known(),
@@ -103,7 +119,7 @@ impl GuaranteeList {
         true
     }
 
-    // One guarantee more, behind the counted ones; the same list beside a refusal.
+    // One guarantee or swap more, behind the counted ones; the same list beside a refusal.
     pub fn add(mut self, item: Guarantee) -> AddedGuarantee
         ensures { λ r. ⌜ (r .list ≡ guaranteeListWith self item) × (answerNumber (r .answer) ≡ guaranteeListRefusal self item) ⌝ }
     {

@@ -7,6 +7,7 @@ pub mod collateral;
 pub mod deal;
 pub mod fields;
 pub mod guarantee;
+pub mod instrument;
 pub mod party;
 pub mod ranges;
 pub mod terms;

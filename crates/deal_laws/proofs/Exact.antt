@@ -7,7 +7,7 @@ use lib.Dec.{leb, eqb}
 use lib.ListN.{length, getD}
 use borrow.Author.Tests.{eq-eqb, eqb-true, le-leb, leb-true}
 use Rattle.base.proofs.FirstMet.{exact}
-use Rattle.base.specs.FirstMet.{Exact}
+use Rattle.base.specs.FirstMet.{ExactFor}
 use Rattle.base.proofs.All.{all-at, all-from}
 use Rattle.base.proofs.Every.{both}
 use Rattle.base.proofs.Tests.{and-true, not-true, told-not-false}
@@ -26,17 +26,17 @@ use Rattle.deal.specs.declared.collateral.Collateral.{Collateral}
 use Rattle.deal.specs.declared.guarantee.Guarantee.{Guarantee}
 use Rattle.deal.specs.declared.deal.Deal.{Deal}
 
-pub opening-exact : (t : Terms) → Exact (termsTests t)
-unfolding termsTests
-opening-exact t = exact _ refl
+pub opening-exact : (t : Terms) → ExactFor (termsRefusal t) (termsTests t)
+unfolding termsRefusal termsTests
+opening-exact t = exact (termsTests t) refl
 
-pub collateral-exact : (d : Deal) (c : Collateral) → Exact (addCollateralTests d c)
-unfolding addCollateralTests collateralListTests collateralTests
-collateral-exact d c = exact _ refl
+pub collateral-exact : (d : Deal) (c : Collateral) → ExactFor (addCollateralRefusal d c) (addCollateralTests d c)
+unfolding addCollateralRefusal addCollateralTests collateralListTests collateralTests
+collateral-exact d c = exact (addCollateralTests d c) refl
 
-pub guarantee-exact : (d : Deal) (g : Guarantee) → Exact (addGuaranteeTests d g)
-unfolding addGuaranteeTests guaranteeListTests guaranteeTests
-guarantee-exact d g = exact _ refl
+pub guarantee-exact : (d : Deal) (g : Guarantee) → ExactFor (addGuaranteeRefusal d g) (addGuaranteeTests d g)
+unfolding addGuaranteeRefusal addGuaranteeTests guaranteeListTests guaranteeTests
+guarantee-exact d g = exact (addGuaranteeTests d g) refl
 
 -- as it reads for one number: opening is refused with 3 exactly if a step is wrong, and neither the amount nor a code is
 abbrev Three : Terms → Type 0

@@ -79,6 +79,11 @@ pub added-tests : {A : Type 0} (rules : Rules) (d : Deal) (tests : A → List (T
     firstMet (recordTestsBy rules d (listTests tests count x)) ≡ 0 → NoneMet (tests x)
 added-tests rules d tests count x h e = none-exactly (recordTestsBy rules d (listTests tests count x)) h e .1 .1
 
+-- a test besides that passes
+pub and-right : (a b : Bool) → b ≡ true → (a && b) ≡ a
+and-right true b h = h
+and-right false b h = refl
+
 -- two tests that hold of the same
 pub same-truth : (a b : Bool) → (a ≡ true → b ≡ true) → (b ≡ true → a ≡ true) → a ≡ b
 same-truth true b h k = sym (h refl)

@@ -1,5 +1,5 @@
 -- Two sets of rules that are alike for an edition, on what is accepted by the first of them, give the same answers to a deal and to a book of
--- that edition. Assumes nothing.
+-- that edition: where each line passes a test, and of deals that such lines lead to. Assumes nothing.
 use Prim.Native.Nat.{ℕ, _+_, _≤_}
 use mathlib.Core.Path.{_≡_, refl, sym, ap, _∙_}
 use mathlib.Core.Bool.{Bool, true, false}
@@ -7,15 +7,17 @@ use mathlib.Core.List.{List, [], _∷_}
 use lib.Dec.{eqb, ltb}
 use lib.ListN.{length}
 use borrow.Author.Tests.{eqb-true, le-ltb}
+use Rattle.base.specs.All.{allPass}
 use Rattle.base.specs.Choice.{if_then_else_}
 use Rattle.base.specs.FirstMet.{firstOr}
 use Rattle.base.specs.Writing.{overwrite}
 use Rattle.base.proofs.Choice.{either, if-false, if-true}
+use Rattle.base.proofs.Every.{both}
 use Rattle.text.specs.Text.{firstLine}
 use Rattle.deal.specs.declared.deal.Deal.{Deal}
 use Rattle.lines.specs.declared.line.Line.{Line}
 use Rattle.book.specs.Answers.{refusedAt}
-use Rattle.book.specs.Book.{bookLimit, dealsOf}
+use Rattle.book.specs.Book.{bookLimit, dealsOf, linesBehind}
 use Rattle.book.specs.Deals.{DealLines}
 use Rattle.book.specs.Heading.{isWrong}
 use Rattle.result.specs.Result.{resultText}
@@ -24,31 +26,45 @@ use Rattle.earlier.specs.Books.{answeredDealsBy, answersBy, bookRefusalB
 use Rattle.earlier.specs.Deals.{acceptedBy}
 use Rattle.earlier.specs.Rules.{Rules}
 use Rattle.earlier.proofs.Accepted.{Apart}
-use Rattle.earlier.proofs.Lines.{Says, line-accepted, opened-edition, opening-accepted, same-terms}
+use Rattle.earlier.proofs.Lines.{Says, deals-pass, line-accepted, opened-edition, opening-accepted, same-terms}
 
--- each line read alike, each deal opened, added to and reported alike
-pub record Alike (after before : Rules) (edition : ℕ) : Type 0 where
+-- each line that fits read alike, each deal opened, added to and reported alike, where what is to hold of deals holds of it, as it does of every deal
+-- that lines lead to
+pub record Alike (after before : Rules) (edition : ℕ) (fits : List ℕ → Bool) (Holds : Deal → Type 0) : Type 0 where
   pub apart : Apart after
-  pub line : (line : List ℕ) → after .line edition line ≡ before .line edition line
+  pub line : (line : List ℕ) → fits line ≡ true → after .line edition line ≡ before .line edition line
   pub says : (line : List ℕ) → Says edition (before .line edition line)
   pub opening : (line : List ℕ) → openingRefusalBy after (before .line edition line) ≡ openingRefusalBy before (before .line edition line)
   pub opened : (line : List ℕ) → lineOpenedBy after (before .line edition line) ≡ lineOpenedBy before (before .line edition line)
+  pub opens : (line : List ℕ) → Holds (lineOpenedBy after (before .line edition line))
   pub refusal : (d : Deal) → acceptedBy after d ≡ true → d .terms .edition ≡ edition → (line : List ℕ) →
       lineRefusalBy after d (before .line edition line) ≡ lineRefusalBy before d (before .line edition line)
   pub added : (d : Deal) → acceptedBy after d ≡ true → d .terms .edition ≡ edition → (line : List ℕ) →
       withLineBy after d (before .line edition line) ≡ withLineBy before d (before .line edition line)
-  pub reported : (d : Deal) → acceptedBy after d ≡ true → d .terms .edition ≡ edition → (opening : ℕ) → reportedBy after opening d ≡ reportedBy before opening d
+  pub keeps : (d : Deal) → Holds d → (line : List ℕ) → Holds (withLineBy after d (before .line edition line))
+  pub reported : (d : Deal) → acceptedBy after d ≡ true → d .terms .edition ≡ edition → Holds d → (opening : ℕ) → reportedBy after opening d ≡ reportedBy before opening d
+
+-- of every line, and every deal
+abbrev pub anyLine : List ℕ → Bool
+anyLine line = true
+
+abbrev pub AnyDeal : Deal → Type 0
+AnyDeal d = Unit {0}
+
+pub any-lines : (lines : List (List ℕ)) → allPass lines anyLine ≡ true
+any-lines [] = refl
+any-lines (line ∷ lines) = any-lines lines
 
 -- A DEAL
 
-module _ (after before : Rules) (edition : ℕ) (alike : Alike after before edition) where
+module _ (after before : Rules) (edition : ℕ) (fits : List ℕ → Bool) (Holds : Deal → Type 0) (alike : Alike after before edition fits Holds) where
   -- one more line, given the answer from the next line on
-  module _ (opening number : ℕ) (d : Deal) (line : List ℕ) (lines : List (List ℕ)) (a : acceptedBy after d ≡ true) (e : d .terms .edition ≡ edition) where
+  module _ (opening number : ℕ) (d : Deal) (line : List ℕ) (lines : List (List ℕ)) (a : acceptedBy after d ≡ true) (e : d .terms .edition ≡ edition) (f : fits line ≡ true) where
     abbrev said : Line
     said = before .line edition line
 
     read : after .line (d .terms .edition) line ≡ said
-    read = ap (λ n. after .line n line) e ∙ alike .line line
+    read = ap (λ n. after .line n line) e ∙ alike .line line f
 
     read-before : before .line (d .terms .edition) line ≡ said
     read-before = ap (λ n. before .line n line) e
@@ -86,17 +102,21 @@ module _ (after before : Rules) (edition : ℕ) (alike : Alike after before edit
             ∙ sym (if-true _ _ _ (rw same-refusal h))
         go false h = if-false _ _ _ h ∙ ap (λ r. refusedAt r number) (sym same-refusal) ∙ sym (if-false _ _ _ (rw same-refusal h))
 
-  lines-same : (opening number : ℕ) (d : Deal) (lines : List (List ℕ)) → acceptedBy after d ≡ true → d .terms .edition ≡ edition →
+  lines-same : (opening number : ℕ) (d : Deal) (lines : List (List ℕ)) → acceptedBy after d ≡ true → d .terms .edition ≡ edition → Holds d → allPass lines fits ≡ true →
       linesAnswerBy after opening number d lines ≡ linesAnswerBy before opening number d lines
   unfolding linesAnswerBy
-  lines-same opening number d [] a e = alike .reported d a e opening
-  lines-same opening number d (line ∷ lines) a e =
-      one-line opening number d line lines a e (λ b f. lines-same opening (number + 1) (withLineBy after d (before .line edition line)) lines b f)
+  lines-same opening number d [] a e h f = alike .reported d a e h opening
+  lines-same opening number d (line ∷ lines) a e h f =
+      let b = both (fits line) _ f in
+      one-line opening number d line lines a e (b .0) (λ a′ e′. lines-same opening (number + 1) (withLineBy after d (before .line edition line)) lines a′ e′ (alike .keeps d h line) (b .1))
 
-  pub deal-same : (deal : DealLines) → dealAnswerBy after edition deal ≡ dealAnswerBy before edition deal
+  pub deal-same : (deal : DealLines) → allPass (deal .opening ∷ deal .further) fits ≡ true → dealAnswerBy after edition deal ≡ dealAnswerBy before edition deal
   unfolding dealAnswerBy
-  deal-same deal = rw (alike .line (deal .opening)) (go (eqb refused 0) refl)
+  deal-same deal f = rw (alike .line (deal .opening) (fit .0)) (go (eqb refused 0) refl)
     where
+      fit : (fits (deal .opening) ≡ true) × (allPass (deal .further) fits ≡ true)
+      fit = both (fits (deal .opening)) _ f
+
       line : Line
       line = before .line edition (deal .opening)
 
@@ -122,23 +142,29 @@ module _ (after before : Rules) (edition : ℕ) (alike : Alike after before edit
       go true h =
           let none = eqb-true refused 0 h in
           if-true _ _ _ h
-          ∙ lines-same (deal .number) (deal .number + 1) opened (deal .further) (opening-accepted after line none) (opened-edition after edition line (alike .says (deal .opening)) none)
+          ∙ lines-same (deal .number) (deal .number + 1) opened (deal .further) (opening-accepted after line none) (opened-edition after edition line (alike .says (deal .opening)) none) (alike .opens (deal .opening)) (fit .1)
           ∙ ap (λ x. linesAnswerBy before (deal .number) (deal .number + 1) x (deal .further)) (alike .opened (deal .opening))
           ∙ sym (if-true _ _ _ (rw same h))
       go false h = if-false _ _ _ h ∙ ap (λ r. refusedAt r (deal .number)) (sym same) ∙ sym (if-false _ _ _ (rw same h))
 
-  answers-same : (serial : ℕ) (deals : List DealLines) → answersBy after edition serial deals ≡ answersBy before edition serial deals
+  answers-same : (serial : ℕ) (deals : List DealLines) → allPass deals (λ deal. allPass (deal .opening ∷ deal .further) fits) ≡ true →
+      answersBy after edition serial deals ≡ answersBy before edition serial deals
   unfolding answersBy
-  answers-same serial [] = refl
-  answers-same serial (deal ∷ deals) = rw (deal-same deal, answers-same (serial + 1) deals)
+  answers-same serial [] f = refl
+  answers-same serial (deal ∷ deals) f =
+      let b = both (allPass (deal .opening ∷ deal .further) fits) _ f in
+      rw (deal-same deal (b .0), answers-same (serial + 1) deals (b .1))
 
--- A BOOK whose first line says the same, and one edition for which the rules are alike unless it is wrong
+-- A BOOK whose first line says the same, and one edition for which the rules are alike unless it is wrong, and whose lines fit
 
 module _
     (after before : Rules)
     (book : List ℕ)
     (heading-same : after .heading (firstLine book) ≡ before .heading (firstLine book))
-    (alike : isWrong (before .heading (firstLine book)) ≡ false → Alike after before (editionBy before book)) where
+    (fits : List ℕ → Bool)
+    (Holds : Deal → Type 0)
+    (fit : allPass (linesBehind book) fits ≡ true)
+    (alike : isWrong (before .heading (firstLine book)) ≡ false → Alike after before (editionBy before book) fits Holds) where
   refusal-same : (n : ℕ) → bookRefusalBy after book n ≡ bookRefusalBy before book n
   unfolding bookRefusalBy bookTestsBy
   refusal-same n = rw heading-same
@@ -156,6 +182,13 @@ module _
   unfolding answeredDealsBy bookRefusalBy bookTestsBy firstOr if_then_else_
   wrong-refused n e = rw e (either (λ (r : ℕ). (if eqb r 0 then dealsOf book else []) ≡ []) (ltb bookLimit (length book)) (λ h. refl) (λ h. refl))
 
+  -- the deals that are answered are of lines of the book
+  all-fit : (n : ℕ) → allPass (answeredDealsBy before book n) (λ deal. allPass (deal .opening ∷ deal .further) fits) ≡ true
+  unfolding answeredDealsBy
+  all-fit n =
+      either (λ (ds : List DealLines). allPass ds (λ deal. allPass (deal .opening ∷ deal .further) fits) ≡ true) (eqb (bookRefusalBy before book n) 0)
+      (λ h. deals-pass fits 2 (linesBehind book) fit) (λ h. refl)
+
   book-answers : (n : ℕ) → answersBy after (editionBy after book) 1 (answeredDealsBy after book n) ≡ answersBy before (editionBy before book) 1 (answeredDealsBy before book n)
   unfolding answersBy
   book-answers n = rw (heading-same, deals-same n) (go (isWrong (before .heading (firstLine book))) refl)
@@ -168,7 +201,7 @@ module _
 
       go : (t : Bool) → isWrong (before .heading (firstLine book)) ≡ t → answersBy after edition 1 deals ≡ answersBy before edition 1 deals
       go true e = rw (wrong-refused n e)
-      go false e = answers-same after before edition (alike e) 1 deals
+      go false e = answers-same after before edition fits Holds (alike e) 1 deals (all-fit n)
 
   pub results-same : (list : List ℕ) → resultsBy after book list ≡ resultsBy before book list
   unfolding resultsBy

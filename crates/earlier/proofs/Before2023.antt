@@ -3,7 +3,7 @@
 use Prim.Native.Nat.{ℕ, _≤_}
 use mathlib.Core.Path.{_≡_, refl, sym, ap, _∙_}
 use mathlib.Core.Bool.{Bool, true, false, _&&_}
-use mathlib.Core.List.{List}
+use mathlib.Core.List.{List, _∷_}
 use native.Mathlib.Omega.{arith}
 use lib.Dec.{eqb, leb}
 use lib.ListN.{length}
@@ -29,13 +29,13 @@ use Rattle.deal.specs.Views.{viewOf}
 use Rattle.deal.specs.declared.deal.Deal.{Deal}
 use Rattle.relief.specs.Collateral.{collateralGround, collateralGrounds, collateralOutcome, collateralValue, combinedHaircutOf}
 use Rattle.relief.specs.Exposure.{adjustedExposureOf, collateralTotal, exposureAfter, riskWeightedAmountOf, scaledLentHaircut}
-use Rattle.relief.specs.Guarantees.{guaranteeGround, guaranteeGrounds, guaranteeOutcome, guaranteeValue}
+use Rattle.relief.specs.Guarantees.{guaranteeGround, guaranteeGrounds, guaranteeOutcome, guaranteeValue, hedgedAmount}
 use Rattle.relief.specs.Maturity.{shortOriginal, shortResidual}
 use Rattle.relief.specs.Report.{fullReport}
 use Rattle.lines.specs.Lines.{lineOf}
 use Rattle.lines.specs.declared.line.Line.{Line}
 use Rattle.lines.specs.declared.line.Line.the-variants.{DealLine, CollateralLine, GuaranteeLine, Malformed}
-use Rattle.book.specs.Book.{bookLimit}
+use Rattle.book.specs.Book.{bookLimit, linesBehind}
 use Rattle.book.specs.Deals.{DealLines}
 use Rattle.book.specs.Heading.{editionOf, firstHeader, headingOf, isWrong, secondHeader, thirdHeader}
 use Rattle.book.specs.declared.heading.Heading.{Heading}
@@ -44,7 +44,7 @@ use Rattle.earlier.specs.Books.{bookRefusalBy, bookReplyBy, dealAnswerBy
 use Rattle.earlier.specs.Deals.{acceptedBy, addCollateralRefusalBy, addGuaranteeRefusalBy, collateralRefusalBy, dealOpenedBy, guaranteeRefusalBy, reportBy, reportRefusalBy, termsRefusalBy, withCollateralBy, withGuaranteeBy}
 use Rattle.earlier.specs.Rules.{inForce}
 use Rattle.earlier.proofs.Accepted.{parts}
-use Rattle.earlier.proofs.Alike.{Alike, deal-same as alike-deal, printed-same as alike-printed, reply-same as alike-reply, results-same as alike-results, wrong-by-9}
+use Rattle.earlier.proofs.Alike.{Alike, AnyDeal, any-lines, anyLine, deal-same as alike-deal, printed-same as alike-printed, reply-same as alike-reply, results-same as alike-results, wrong-by-9}
 use Rattle.earlier.proofs.Days.{apart-now}
 use Rattle.earlier.proofs.Lines.{Says, said-edition}
 
@@ -165,7 +165,7 @@ third-refused d e = go (acceptedBy before2023 d) refl
 
 -- THE EDITION ENTERS A REPORT BY ITS TABLES ALONE: under one and the same set of tables it makes no difference
 pub only-tables : (table : Table) (edition : ℕ) (d : Deal) → fullReport table (viewOf (dealWithEdition edition d)) ≡ fullReport table (viewOf d)
-unfolding fullReport collateralOutcome collateralGround collateralGrounds collateralValue combinedHaircutOf guaranteeOutcome guaranteeGround guaranteeGrounds guaranteeValue shortOriginal shortResidual scaledLentHaircut adjustedExposureOf collateralTotal exposureAfter riskWeightedAmountOf
+unfolding hedgedAmount fullReport collateralOutcome collateralGround collateralGrounds collateralValue combinedHaircutOf guaranteeOutcome guaranteeGround guaranteeGrounds guaranteeValue shortOriginal shortResidual scaledLentHaircut adjustedExposureOf collateralTotal exposureAfter riskWeightedAmountOf
 only-tables table edition d = refl
 
 -- A BOOK THAT IS NOT HEADED 3
@@ -184,20 +184,22 @@ opened-line edition n (CollateralLine c) s = refl
 opened-line edition n (GuaranteeLine g) s = refl
 opened-line edition n Malformed s = refl
 
-alike : (edition : ℕ) → Other edition → Alike inForce before2023 edition
+alike : (edition : ℕ) → Other edition → Alike inForce before2023 edition anyLine AnyDeal
 alike edition n = record {
   apart = apart-now;
-  line = λ line. refl;
+  line = λ line f. refl;
   says = said-edition edition;
   opening = λ line. opening-line edition n (lineOf edition line) (said-edition edition line);
   opened = λ line. opened-line edition n (lineOf edition line) (said-edition edition line);
+  opens = λ line. tt;
   refusal = λ d a e line. further-line d (rw e n) (lineOf edition line);
   added = λ d a e line. with-line d (rw e n) (lineOf edition line);
-  reported = λ d a e opening. reported-same d (rw e n) opening;
+  keeps = λ d h line. tt;
+  reported = λ d a e h opening. reported-same d (rw e n) opening;
 }
 
 pub deal-same : (edition : ℕ) → eqb edition 3 ≡ false → (deal : DealLines) → dealAnswerBy inForce edition deal ≡ dealAnswerBy before2023 edition deal
-deal-same edition n = alike-deal inForce before2023 edition (alike edition n)
+deal-same edition n deal = alike-deal inForce before2023 edition anyLine AnyDeal (alike edition n) deal (any-lines (deal .opening ∷ deal .further))
 
 module _ (book : List ℕ) (not-3 : sameBytes (firstLine book) thirdHeader ≡ false) where
   heading-same : headingOf (firstLine book) ≡ headingBefore2023 (firstLine book)
@@ -210,17 +212,17 @@ module _ (book : List ℕ) (not-3 : sameBytes (firstLine book) thirdHeader ≡ f
       either (λ (h : Heading). Other (editionOf h)) (sameBytes (firstLine book) firstHeader) (λ e. refl)
       (λ e. either (λ (h : Heading). Other (editionOf h)) (sameBytes (firstLine book) secondHeader) (λ e. refl) (λ e. refl))
 
-  book-alike : isWrong (headingBefore2023 (firstLine book)) ≡ false → Alike inForce before2023 (editionBy before2023 book)
+  book-alike : isWrong (headingBefore2023 (firstLine book)) ≡ false → Alike inForce before2023 (editionBy before2023 book) anyLine AnyDeal
   book-alike h = alike (editionBy before2023 book) headed
 
   pub reply-same : (n : ℕ) → bookReplyBy inForce book n ≡ bookReplyBy before2023 book n
-  reply-same = alike-reply inForce before2023 book heading-same book-alike
+  reply-same = alike-reply inForce before2023 book heading-same anyLine AnyDeal (any-lines (linesBehind book)) book-alike
 
   pub results-same : (list : List ℕ) → resultsBy inForce book list ≡ resultsBy before2023 book list
-  results-same = alike-results inForce before2023 book heading-same book-alike
+  results-same = alike-results inForce before2023 book heading-same anyLine AnyDeal (any-lines (linesBehind book)) book-alike
 
   pub printed-same : printedBy inForce book ≡ printedBy before2023 book
-  printed-same = alike-printed inForce before2023 book heading-same book-alike
+  printed-same = alike-printed inForce before2023 book heading-same anyLine AnyDeal (any-lines (linesBehind book)) book-alike
 
 -- a book headed 3 was refused, by 9 if it was not too long
 third-wrong : isWrong (headingBefore2023 thirdHeader) ≡ true

@@ -37,29 +37,25 @@ use Rattle.deal.specs.declared.guarantee.Guarantee.{Guarantee}
 use Rattle.deal.specs.declared.deal.Deal.{Deal}
 use Rattle.relief.specs.Report.{fullReport}
 use Rattle.lines.specs.Fields.{fieldsOf}
-use Rattle.lines.specs.Lines.{collateralLine, dealLine, guaranteeLine, ifRead, lineOf}
+use Rattle.lines.specs.Lines.{collateralLine, dealLine, guaranteeLine, ifRead, lineOf, swapLine}
 use Rattle.lines.specs.Sovereign.{widthUnder, withSovereign}
 use Rattle.lines.specs.declared.line.Line.{Line}
 use Rattle.lines.specs.declared.line.Line.the-variants.{DealLine, CollateralLine, GuaranteeLine, Malformed}
 use Rattle.lines.proofs.SovereignLaws.{put-at}
-use Rattle.book.specs.Book.{bookLimit}
+use Rattle.book.specs.Book.{bookLimit, linesBehind}
 use Rattle.book.specs.Deals.{DealLines}
 use Rattle.book.specs.Heading.{editionOf, firstHeader, headingOf, isWrong, secondHeader, thirdHeader}
 use Rattle.book.specs.declared.heading.Heading.{Heading}
-use Rattle.earlier.specs.BeforeFloor.{beforeFloor, guaranteeBefore, guaranteeChecksBefore, headingBefore, lineBefore, newFieldsAllowed, tableBefore, termsBefore, termsChecksBefore}
+use Rattle.earlier.specs.BeforeFloor.{beforeFloor, guaranteeBefore, guaranteeChecksBefore, headingBefore, lineBefore, newFieldsAllowed, tableBefore, termsBefore, termsChecksBefore, swapBefore}
 use Rattle.earlier.specs.Books.{bookRefusalBy, bookReplyBy, dealAnswerBy, editionBy, lineOpenedBy, lineRefusalBy, openingRefusalBy, printedBy, reportedBy, resultsBy, withLineBy}
 use Rattle.earlier.specs.Deals.{acceptedBy, addCollateralRefusalBy, addGuaranteeRefusalBy, collateralRefusalBy, dealOpenedBy, guaranteeRefusalBy, reportBy, reportRefusalBy, termsRefusalBy, withCollateralBy, withGuaranteeBy}
 use Rattle.earlier.specs.Rules.{inForce}
-use Rattle.earlier.proofs.Accepted.{list-more, list-passing, list-short, parts, same-truth, unrefused, whole}
-use Rattle.earlier.proofs.Alike.{Alike, deal-same as alike-deal, printed-same as alike-printed, reply-same as alike-reply, results-same as alike-results, wrong-by-9}
+use Rattle.earlier.proofs.Accepted.{and-right, list-more, list-passing, list-short, parts, same-truth, unrefused, whole}
+use Rattle.earlier.proofs.Alike.{Alike, AnyDeal, any-lines, anyLine, deal-same as alike-deal, printed-same as alike-printed, reply-same as alike-reply, results-same as alike-results, wrong-by-9}
 use Rattle.earlier.proofs.Days.{apart-now}
 use Rattle.earlier.proofs.Lines.{Says, read-says, said-edition}
 
 -- FIELDS: what is new is a test of the edition, and one of each party's sovereign's step
-
-and-right : (a b : Bool) → b ≡ true → (a && b) ≡ a
-and-right true b h = h
-and-right false b h = refl
 
 steps-same : (p : Party) → sovereignStepAllowed p ≡ true → partyStepsAllowed p ≡ partyStepAllowed p
 unfolding partyStepsAllowed
@@ -216,6 +212,10 @@ guarantee-fields : (fields : List ℕ) → guaranteeLine 1 fields ≡ GuaranteeL
 unfolding guaranteeLine withSovereign if_then_else_
 guarantee-fields fields = simp (put-at 3 fields)
 
+swap-fields : (fields : List ℕ) → swapLine 1 fields ≡ GuaranteeLine (swapBefore fields)
+unfolding swapLine withSovereign if_then_else_
+swap-fields fields = simp (put-at 3 fields)
+
 pub line-same : (line : List ℕ) → lineOf 1 line ≡ lineBefore line
 unfolding lineOf lineBefore widthUnder if_then_else_
 line-same [] = refl
@@ -223,6 +223,7 @@ line-same (letter ∷ rest) =
     rw (
       read-same (dealLine 1) (λ fields. DealLine (termsBefore fields)) deal-fields (fieldsOf 10 rest),
       read-same (guaranteeLine 1) (λ fields. GuaranteeLine (guaranteeBefore fields)) guarantee-fields (fieldsOf 9 rest),
+      read-same (swapLine 1) (λ fields. GuaranteeLine (swapBefore fields)) swap-fields (fieldsOf 10 rest),
     )
 
 -- what they bring has the first edition and a sovereign's step of 0
@@ -238,7 +239,8 @@ line-old [] = tt
 line-old (letter ∷ rest) =
     either Old (eqb letter (byte "D")) (λ e. read-says Old (λ fields. DealLine (termsBefore fields)) tt (λ fields. (refl, refl)) _)
     (λ e. either Old (eqb letter (byte "C")) (λ e. read-says Old collateralLine tt (λ fields. tt) _)
-    (λ e. either Old (eqb letter (byte "G")) (λ e. read-says Old (λ fields. GuaranteeLine (guaranteeBefore fields)) tt (λ fields. refl) _) (λ e. tt)))
+    (λ e. either Old (eqb letter (byte "G")) (λ e. read-says Old (λ fields. GuaranteeLine (guaranteeBefore fields)) tt (λ fields. refl) _)
+    (λ e. either Old (eqb letter (byte "S")) (λ e. read-says Old (λ fields. GuaranteeLine (swapBefore fields)) tt (λ fields. refl) _) (λ e. tt))))
 
 opening-line : (line : Line) → Old line → openingRefusalBy inForce line ≡ openingRefusalBy beforeFloor line
 unfolding openingRefusalBy
@@ -270,20 +272,22 @@ with-line d a Malformed o = refl
 
 -- A DEAL OF A BOOK HEADED 1
 
-alike : Alike inForce beforeFloor 1
+alike : Alike inForce beforeFloor 1 anyLine AnyDeal
 alike = record {
   apart = apart-now;
-  line = line-same;
+  line = λ line f. line-same line;
   says = λ line. subst (Says 1) (line-same line) (said-edition 1 line);
   opening = λ line. opening-line (lineBefore line) (line-old line);
   opened = λ line. opened-line (lineBefore line) (line-old line);
+  opens = λ line. tt;
   refusal = λ d a e line. further-line d a (lineBefore line) (line-old line);
   added = λ d a e line. with-line d a (lineBefore line) (line-old line);
-  reported = λ d a e opening. reported-same d a opening e;
+  keeps = λ d h line. tt;
+  reported = λ d a e h opening. reported-same d a opening e;
 }
 
 pub deal-same : (deal : DealLines) → dealAnswerBy inForce 1 deal ≡ dealAnswerBy beforeFloor 1 deal
-deal-same = alike-deal inForce beforeFloor 1 alike
+deal-same deal = alike-deal inForce beforeFloor 1 anyLine AnyDeal alike deal (any-lines (deal .opening ∷ deal .further))
 
 -- A BOOK THAT IS HEADED NEITHER 2 NOR 3
 
@@ -297,17 +301,17 @@ module _ (book : List ℕ) (not-2 : sameBytes (firstLine book) secondHeader ≡ 
   unfolding headingBefore
   headed-1 = either (λ (h : Heading). isWrong h ≡ false → editionOf h ≡ 1) (sameBytes (firstLine book) firstHeader) (λ e h. refl) (λ e h. absurd (never refl h))
 
-  book-alike : isWrong (headingBefore (firstLine book)) ≡ false → Alike inForce beforeFloor (editionBy beforeFloor book)
-  book-alike h = subst (λ edition. Alike inForce beforeFloor edition) (sym (headed-1 h)) alike
+  book-alike : isWrong (headingBefore (firstLine book)) ≡ false → Alike inForce beforeFloor (editionBy beforeFloor book) anyLine AnyDeal
+  book-alike h = subst (λ edition. Alike inForce beforeFloor edition anyLine AnyDeal) (sym (headed-1 h)) alike
 
   pub reply-same : (n : ℕ) → bookReplyBy inForce book n ≡ bookReplyBy beforeFloor book n
-  reply-same = alike-reply inForce beforeFloor book heading-same book-alike
+  reply-same = alike-reply inForce beforeFloor book heading-same anyLine AnyDeal (any-lines (linesBehind book)) book-alike
 
   pub results-same : (list : List ℕ) → resultsBy inForce book list ≡ resultsBy beforeFloor book list
-  results-same = alike-results inForce beforeFloor book heading-same book-alike
+  results-same = alike-results inForce beforeFloor book heading-same anyLine AnyDeal (any-lines (linesBehind book)) book-alike
 
   pub printed-same : printedBy inForce book ≡ printedBy beforeFloor book
-  printed-same = alike-printed inForce beforeFloor book heading-same book-alike
+  printed-same = alike-printed inForce beforeFloor book heading-same anyLine AnyDeal (any-lines (linesBehind book)) book-alike
 
 -- a book headed 2 was refused, by 9 if it was not too long
 second-wrong : isWrong (headingBefore secondHeader) ≡ true

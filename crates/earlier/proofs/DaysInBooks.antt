@@ -12,21 +12,20 @@ use Rattle.base.specs.All.{allPass}
 use Rattle.base.specs.Writing.{overwrite}
 use Rattle.base.proofs.Choice.{either, if-false, if-true, never}
 use Rattle.base.proofs.Every.{both}
-use Rattle.base.proofs.Tests.{and-true}
 use Rattle.deal.specs.declared.deal.Deal.{Deal}
 use Rattle.lines.specs.Lines.{lineOf}
 use Rattle.lines.specs.declared.line.Line.{Line}
 use Rattle.lines.specs.declared.line.Line.the-variants.{DealLine, CollateralLine, GuaranteeLine, Malformed}
 use Rattle.book.specs.Answers.{refusedAt}
 use Rattle.book.specs.Book.{bookEdition, dealsOf, linesBehind}
-use Rattle.book.specs.Deals.{DealLines, dealsFrom, opensDeal, ownLines}
+use Rattle.book.specs.Deals.{DealLines}
 use Rattle.result.specs.Result.{resultText}
 use Rattle.response.specs.Response.{places}
 use Rattle.earlier.specs.Books.{answersBy, answeredDealsBy, bookRefusalBy, bookTestsBy, dealAnswerBy, lineOpenedBy, lineRefusalBy, linesAnswerBy, openingRefusalBy, printedBy, reportedBy, resultsBy, withLineBy}
 use Rattle.earlier.specs.Days.{acceptedUpTo, dealLinesNoneAbove, lineNoneAbove, linesNoneAbove, printedUpTo, resultsUpTo}
 use Rattle.earlier.specs.Rules.{upTo}
 use Rattle.earlier.proofs.Days.{adding-collateral-stays, adding-guarantee-stays, apart, opened-stays, opening-stays, same-report, same-reporting, with-collateral-stays, with-guarantee-stays, zero-kept}
-use Rattle.earlier.proofs.Lines.{line-accepted, opened-edition, opening-accepted, said-edition, same-terms}
+use Rattle.earlier.proofs.Lines.{deals-pass, line-accepted, opened-edition, opening-accepted, said-edition, same-terms}
 use Rattle.earlier.proofs.Fields.{Kept}
 
 -- what an answer and its lines are asked for, of the lines behind the first one, and of the first one where it is refused
@@ -153,24 +152,6 @@ module _ (low high : ℕ) (raised : low ≤ high) where
   answers-stay edition serial (deal ∷ deals) e =
       let b = both (dealLinesNoneAbove low edition deal) _ e in
       rw (deal-stays edition deal (inr (b .0)), answers-stay edition (serial + 1) deals (b .1))
-
--- the lines of a deal are among the lines of its book
-module _ (p : List ℕ → Bool) where
-  own-pass : (lines : List (List ℕ)) → allPass lines p ≡ true → allPass (ownLines lines) p ≡ true
-  unfolding ownLines
-  own-pass [] e = refl
-  own-pass (line ∷ lines) e =
-      let b = both (p line) _ e in
-      either (λ (l : List (List ℕ)). allPass l p ≡ true) (opensDeal line) (λ h. refl) (λ h. and-true _ _ (b .0) (own-pass lines (b .1)))
-
-  deals-pass : (number : ℕ) (lines : List (List ℕ)) → allPass lines p ≡ true → allPass (dealsFrom number lines) (λ deal. allPass (deal .opening ∷ deal .further) p) ≡ true
-  unfolding dealsFrom
-  deals-pass number [] e = refl
-  deals-pass number (line ∷ lines) e =
-      let b = both (p line) _ e in
-      let later = deals-pass (number + 1) lines (b .1) in
-      either (λ (l : List DealLines). allPass l (λ deal. allPass (deal .opening ∷ deal .further) p) ≡ true) (opensDeal line)
-      (λ h. and-true _ _ (and-true _ _ (b .0) (own-pass lines (b .1))) later) (λ h. later)
 
 -- the deals of a book that are answered, which no limit decides
 module _ (low high : ℕ) (raised : low ≤ high) (book : List ℕ) (short : linesNoneAbove low (bookEdition book) (linesBehind book) ≡ true) where

@@ -6,6 +6,8 @@ pub mod Days
 pub mod DaysInBooks
 pub mod Now
 pub mod BeforeFloor
+pub mod BeforeSwaps
+pub mod GuaranteesAlone
 pub mod Before2023
 pub mod Examples
 pub mod Examples2023

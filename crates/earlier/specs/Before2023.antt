@@ -44,7 +44,7 @@ termsChecksBefore2023 t = record {
   conditions = true;
 }
 
--- lines, and what adding asks of an item, are today's
+-- lines, and what adding asks of an item, are today's; so are swaps, which came later (02: L1)
 abbrev pub before2023 : Rules
 before2023 = record {
   heading = headingBefore2023;
@@ -53,6 +53,7 @@ before2023 = record {
   collateralTests = collateralTests;
   guaranteeTests = guaranteeTests;
   table = λ t. table2019 (t .edition);
+  taken = λ v. v;
 }
 
 -- the same terms, and the same deal, under another edition

@@ -1,6 +1,7 @@
 -- The rules before the sovereign floor (02: L5) and after longer lives (02: L11), each as it stood: one heading, lines without the sovereign's
 -- step, no test of it or of an edition, and weights by class and step alone. Lines read by these rules give 0 for the sovereign's step and 1 for the
--- edition, which records did not hold then; no rule of `beforeFloor` reads either
+-- edition, which records did not hold then; no rule of `beforeFloor` reads either. Swaps (02: L1), which came later, are here what they are today,
+-- but for the sovereign's step in their lines; the rules before them are in specs/BeforeSwaps
 use Prim.Native.Nat.{ℕ}
 use mathlib.Core.Bool.{Bool, true, _&&_}
 use mathlib.Core.List.{List, [], _∷_}
@@ -20,6 +21,7 @@ use Rattle.deal.specs.Collateral.{collateralTests}
 use Rattle.deal.specs.Parties.{counterpartyKnown, partyStepAllowed, providerKnown, sovereignStepAllowed}
 use Rattle.deal.specs.Ranges.{amountAllowed, conditionAllowed, currencyAllowed, daysAllowed, daysLimit, intervalAllowed}
 use Rattle.deal.specs.Editions.{editionKnown}
+use Rattle.deal.specs.Instruments.{asSwap, guaranteeInstrument, instrumentAllowed}
 use Rattle.deal.specs.Terms.{kindKnown}
 use Rattle.deal.specs.Views.{viewOf}
 use Rattle.deal.specs.declared.checks.FieldChecks.{FieldChecks}
@@ -65,7 +67,12 @@ guaranteeBefore fields =
       lawful = field 6;
       direct = field 7;
       «not_in_rating» = field 8;
+      instrument = guaranteeInstrument;
     }
+
+-- and the ten of a line S
+abbrev pub swapBefore : List ℕ → Guarantee
+swapBefore fields = asSwap (getD fields 9 0) (guaranteeBefore fields)
 
 unfoldable pub lineBefore : List ℕ → Line
 lineBefore [] = Malformed
@@ -73,6 +80,7 @@ lineBefore (letter ∷ rest) =
     if eqb letter (byte "D") then ifRead (λ fields. DealLine (termsBefore fields)) (fieldsOf 10 rest) else
     if eqb letter (byte "C") then ifRead collateralLine (fieldsOf 11 rest) else
     if eqb letter (byte "G") then ifRead (λ fields. GuaranteeLine (guaranteeBefore fields)) (fieldsOf 9 rest) else
+    if eqb letter (byte "S") then ifRead (λ fields. GuaranteeLine (swapBefore fields)) (fieldsOf 10 rest) else
     Malformed
 
 -- what opening and adding a guarantee asked of each field
@@ -95,7 +103,7 @@ guaranteeChecksBefore g = record {
   currency = currencyAllowed (g .currency);
   ranges = daysAllowed daysLimit (g .residual) && daysAllowed daysLimit (g .original);
   maturity = leb (g .residual) (g .original);
-  conditions = conditionAllowed (g .lawful) && conditionAllowed (g .direct) && conditionAllowed (g .«not_in_rating»);
+  conditions = conditionAllowed (g .lawful) && conditionAllowed (g .direct) && conditionAllowed (g .«not_in_rating») && instrumentAllowed (g .instrument);
 }
 
 -- "The weight comes from class and step alone" (01: Risk weights in percent)
@@ -116,6 +124,7 @@ beforeFloor = record {
   collateralTests = collateralTests;
   guaranteeTests = λ g. fieldTests (guaranteeChecksBefore g);
   table = λ t. tableBefore;
+  taken = λ v. v;
 }
 
 -- what a record holds now besides: a known edition, and right steps of the sovereigns of its counterparty and of counted providers

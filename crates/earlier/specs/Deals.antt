@@ -67,4 +67,4 @@ unfoldable pub reportRefusalBy : Rules → Deal → ℕ
 reportRefusalBy rules d = firstMet (40 when not (acceptedBy rules d) ∷ [])
 
 unfoldable pub reportBy : Rules → Deal → Report
-reportBy rules d = if acceptedBy rules d then fullReport (rules .table (d .terms)) (viewOf d) else refusedReport
+reportBy rules d = if acceptedBy rules d then fullReport (rules .table (d .terms)) (rules .taken (viewOf d)) else refusedReport

@@ -9,6 +9,7 @@ use Rattle.deal.specs.Collateral.{collateralChecks, collateralTests}
 use Rattle.deal.specs.Editions.{tableFor}
 use Rattle.deal.specs.Guarantees.{guaranteeChecks, guaranteeTests}
 use Rattle.deal.specs.Terms.{termsChecks, termsTests}
+use Rattle.deal.specs.Views.{View}
 use Rattle.deal.specs.declared.terms.Terms.{Terms}
 use Rattle.deal.specs.declared.collateral.Collateral.{Collateral}
 use Rattle.deal.specs.declared.guarantee.Guarantee.{Guarantee}
@@ -28,6 +29,8 @@ pub record Rules : Type 0 where
   pub guaranteeTests : Guarantee → List (Test ℕ)
   -- the tables that a deal is reported under
   pub table : Terms → Table
+  -- and what its items are taken for
+  pub taken : View → View
 
 -- the rules in force, which are those of the contracts (proofs/Now)
 abbrev pub inForce : Rules
@@ -38,6 +41,7 @@ inForce = record {
   collateralTests = collateralTests;
   guaranteeTests = guaranteeTests;
   table = tableFor;
+  taken = λ v. v;
 }
 
 -- with another limit of days. 02: L11, "Raise the limit of issue life and of all terms"
@@ -49,4 +53,5 @@ upTo limit = record {
   collateralTests = λ c. fieldTests (collateralChecks limit c);
   guaranteeTests = λ g. fieldTests (guaranteeChecks limit g);
   table = tableFor;
+  taken = λ v. v;
 }

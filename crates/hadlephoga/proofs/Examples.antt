@@ -6,7 +6,7 @@ use lib.ListN.{getD, length, replicate}
 use Rattle.base.specs.Choice.{if_then_else_}
 use Rattle.deal.specs.Answers.{answerNumber}
 use Rattle.deal.specs.Adding.{addCollateralRefusal, addCollateralTests, addGuaranteeRefusal, addGuaranteeTests, withCollateral, withGuarantee}
-use Rattle.deal.specs.Fields.{collateralIn, collateralWidth, guaranteeIn, guaranteeWidth, termsIn, termsWidth, zeroCollateral, zeroGuarantee}
+use Rattle.deal.specs.Fields.{collateralIn, collateralWidth, guaranteeIn, guaranteeWidth, sentGuaranteeWidth, sentSwapWidth, termsIn, termsWidth, zeroCollateral, zeroGuarantee}
 use Rattle.deal.specs.Collateral.{collateralListTests}
 use Rattle.deal.specs.Guarantees.{guaranteeListTests}
 use Rattle.deal.specs.declared.answer.Answer.the-variants.{Accepted}
@@ -17,7 +17,7 @@ use Rattle.relief.specs.declared.outcome.Outcome.the-variants.{LeftOut, Valued}
 use Rattle.relief.specs.declared.report.Report.{Report}
 use Rattle.relief.proofs.Computed.{computed}
 use Rattle.hadlephoga.specs.Layout.{layout}
-use Rattle.hadlephoga.specs.Operations.{addingCollateralRefusal, addingGuaranteeRefusal, addingRefusal, listOpened, numbersWithCollateral, numbersWithGuarantee, openedNumbers, openingRefusalOf, openingTests}
+use Rattle.hadlephoga.specs.Operations.{addingCollateralRefusal, addingGuaranteeRefusal, addingRefusal, addingSwapRefusal, listOpened, numbersWithCollateral, numbersWithGuarantee, numbersWithSwap, openedNumbers, openingRefusalOf, openingTests}
 use Rattle.hadlephoga.specs.Records.{dealIn, dealNumbers, inOrder, slices, recordLength}
 use Rattle.hadlephoga.specs.Reports.{collateralReportWidth, guaranteeReportWidth, listAfter, reportIn, reportLength, reportNumbers, reportingRefusal}
 
@@ -26,7 +26,7 @@ abbrev example : List ℕ
 example =
     1000000 ∷ 3 ∷ 0 ∷ 0 ∷ 978 ∷ 3 ∷ 1 ∷ 1800 ∷ 1 ∷ 0 ∷ 0 ∷ 1
     ∷ 1 ∷ 400000 ∷ 2 ∷ 1 ∷ 720 ∷ 978 ∷ 1800 ∷ 1800 ∷ 1 ∷ 1 ∷ 1 ∷ 0 ∷ (replicate 165 0
-    ++ 1 ∷ 200000 ∷ 1 ∷ 1 ∷ 0 ∷ 978 ∷ 1800 ∷ 1800 ∷ 1 ∷ 1 ∷ 1 ∷ replicate 150 0)
+    ++ 1 ∷ 200000 ∷ 1 ∷ 1 ∷ 0 ∷ 978 ∷ 1800 ∷ 1800 ∷ 1 ∷ 1 ∷ 1 ∷ replicate 166 0)
 
 -- E* 611,314 and the weighted amount 411,314, as the book's answer has them; a number behind the report stays
 example-reported :
@@ -51,7 +51,7 @@ abbrev promise : List ℕ
 promise = 200000 ∷ 1 ∷ 1 ∷ 0 ∷ 978 ∷ 1800 ∷ 1800 ∷ 1 ∷ 1 ∷ 1 ∷ []
 
 unfoldable built : List ℕ
-unfolding computed openingRefusalOf openingTests openedNumbers listOpened addingRefusal numbersWithCollateral numbersWithGuarantee addCollateralTests addGuaranteeTests addCollateralRefusal addGuaranteeRefusal collateralListTests guaranteeListTests withCollateral withGuarantee dealIn dealNumbers slices inOrder
+unfolding computed openingRefusalOf openingTests openedNumbers listOpened addingRefusal numbersWithCollateral numbersWithGuarantee numbersWithSwap addCollateralTests addGuaranteeTests addCollateralRefusal addGuaranteeRefusal collateralListTests guaranteeListTests withCollateral withGuarantee dealIn dealNumbers slices inOrder
 built = numbersWithGuarantee (numbersWithCollateral (openedNumbers opening) bond) promise
 
 example-built : (built ≡ example) × (addingCollateralRefusal example bond ≡ 0) × (addingGuaranteeRefusal example promise ≡ 0)
@@ -59,7 +59,7 @@ unfolding built
 example-built = (refl, refl, refl)
 
 -- opened into a list with a number behind the record, which stays
-example-opened : (openingRefusalOf opening 351 ≡ 0) × (listOpened opening (replicate 351 7) ≡ opening ++ (replicate 338 0 ++ 7 ∷ []))
+example-opened : (openingRefusalOf opening 367 ≡ 0) × (listOpened opening (replicate 367 7) ≡ opening ++ (replicate 354 0 ++ 7 ∷ []))
 unfolding built
 example-opened = (refl, refl)
 
@@ -68,12 +68,12 @@ abbrev wrongStep : List ℕ
 wrongStep = 500 ∷ 2 ∷ 7 ∷ 0 ∷ 840 ∷ 1 ∷ 1 ∷ 30 ∷ 1 ∷ 0 ∷ 0 ∷ 1 ∷ []
 
 not-opened :
-    (openingRefusalOf wrongStep 351 ≡ 3)
-    × (listOpened wrongStep (replicate 351 7) ≡ replicate 350 0 ++ 7 ∷ [])
-    × (openingRefusalOf (0 ∷ opening) 351 ≡ 11)
-    × (listOpened (0 ∷ opening) (replicate 351 7) ≡ replicate 350 0 ++ 7 ∷ [])
-    × (openingRefusalOf (0 ∷ opening) 349 ≡ 13)
-    × (listOpened (0 ∷ opening) (replicate 349 7) ≡ replicate 349 7)
+    (openingRefusalOf wrongStep 367 ≡ 3)
+    × (listOpened wrongStep (replicate 367 7) ≡ replicate 366 0 ++ 7 ∷ [])
+    × (openingRefusalOf (0 ∷ opening) 367 ≡ 11)
+    × (listOpened (0 ∷ opening) (replicate 367 7) ≡ replicate 366 0 ++ 7 ∷ [])
+    × (openingRefusalOf (0 ∷ opening) 365 ≡ 13)
+    × (listOpened (0 ∷ opening) (replicate 365 7) ≡ replicate 365 7)
 unfolding built
 not-opened = (refl, refl, refl, refl, refl, refl)
 
@@ -82,7 +82,7 @@ not-added :
     (addingCollateralRefusal [] promise ≡ 11)
     × (addingGuaranteeRefusal [] bond ≡ 11)
     × (addingCollateralRefusal (0 ∷ example) (replicate 11 0) ≡ 40)
-    × (addingGuaranteeRefusal (replicate 350 0) (replicate 10 0) ≡ 40)
+    × (addingGuaranteeRefusal (replicate 366 0) (replicate 10 0) ≡ 40)
     × (addingCollateralRefusal example (400000 ∷ 2 ∷ 1 ∷ 720 ∷ replicate 7 0) ≡ 4)
     × (numbersWithCollateral example (400000 ∷ 2 ∷ 1 ∷ 720 ∷ replicate 7 0) ≡ example)
     × (numbersWithGuarantee (0 ∷ example) promise ≡ 0 ∷ example)
@@ -95,7 +95,7 @@ abbrev longest : List ℕ
 longest =
     1000000 ∷ 3 ∷ 0 ∷ 0 ∷ 978 ∷ 3 ∷ 1 ∷ 100000 ∷ 2 ∷ 1 ∷ 100000 ∷ 1
     ∷ 1 ∷ 400000 ∷ 2 ∷ 1 ∷ 100000 ∷ 978 ∷ 100000 ∷ 100000 ∷ 1 ∷ 1 ∷ 1 ∷ 0 ∷ (replicate 165 0
-    ++ 1 ∷ 200000 ∷ 1 ∷ 1 ∷ 0 ∷ 978 ∷ 100000 ∷ 100000 ∷ 1 ∷ 1 ∷ 1 ∷ replicate 150 0)
+    ++ 1 ∷ 200000 ∷ 1 ∷ 1 ∷ 0 ∷ 978 ∷ 100000 ∷ 100000 ∷ 1 ∷ 1 ∷ 1 ∷ replicate 166 0)
 
 longest-built :
     numbersWithGuarantee
@@ -118,15 +118,15 @@ countedUp first (suc n) = first ∷ countedUp (suc first) n
 
 -- each number of a record is the field that it should be: of the terms, the counts, and the first and last item of each list
 record-in-place :
-    (dealIn (countedUp 0 350) .terms ≡ termsIn (0 ∷ 1 ∷ 2 ∷ 3 ∷ 4 ∷ 5 ∷ 6 ∷ 7 ∷ 8 ∷ 9 ∷ 10 ∷ 11 ∷ []))
-    × (dealIn (countedUp 0 350) .collateral .count ≡ 12)
-    × (getD (dealIn (countedUp 0 350) .collateral .items) 0 zeroCollateral ≡ collateralIn (countedUp 13 11))
-    × (getD (dealIn (countedUp 0 350) .collateral .items) 15 zeroCollateral ≡ collateralIn (countedUp 178 11))
-    × (dealIn (countedUp 0 350) .guarantees .count ≡ 189)
-    × (getD (dealIn (countedUp 0 350) .guarantees .items) 0 zeroGuarantee ≡ guaranteeIn (countedUp 190 10))
-    × (getD (dealIn (countedUp 0 350) .guarantees .items) 15 zeroGuarantee ≡ guaranteeIn (countedUp 340 10))
-    × (length (countedUp 0 350) ≡ recordLength)
-    × (dealNumbers (dealIn (countedUp 0 350)) ≡ countedUp 0 350)
+    (dealIn (countedUp 0 366) .terms ≡ termsIn (0 ∷ 1 ∷ 2 ∷ 3 ∷ 4 ∷ 5 ∷ 6 ∷ 7 ∷ 8 ∷ 9 ∷ 10 ∷ 11 ∷ []))
+    × (dealIn (countedUp 0 366) .collateral .count ≡ 12)
+    × (getD (dealIn (countedUp 0 366) .collateral .items) 0 zeroCollateral ≡ collateralIn (countedUp 13 11))
+    × (getD (dealIn (countedUp 0 366) .collateral .items) 15 zeroCollateral ≡ collateralIn (countedUp 178 11))
+    × (dealIn (countedUp 0 366) .guarantees .count ≡ 189)
+    × (getD (dealIn (countedUp 0 366) .guarantees .items) 0 zeroGuarantee ≡ guaranteeIn (countedUp 190 11))
+    × (getD (dealIn (countedUp 0 366) .guarantees .items) 15 zeroGuarantee ≡ guaranteeIn (countedUp 355 11))
+    × (length (countedUp 0 366) ≡ recordLength)
+    × (dealNumbers (dealIn (countedUp 0 366)) ≡ countedUp 0 366)
 unfolding built countedUp
 record-in-place = (refl, refl, refl, refl, refl, refl, refl, refl, refl)
 
@@ -147,10 +147,10 @@ report-in-place = refl
 
 -- THE LAYOUT, which has a number: how many numbers each part has, and what stands where. Whoever changes one of these has to change the
 -- layout's number, and this fact with it
-layout-2 :
-    layout ∷ termsWidth ∷ collateralWidth ∷ guaranteeWidth ∷ recordLength ∷ collateralReportWidth ∷ guaranteeReportWidth ∷ reportLength ∷ []
-    ≡ 2 ∷ 12 ∷ 11 ∷ 10 ∷ 350 ∷ 2 ∷ 3 ∷ 83 ∷ []
-layout-2 = refl
+layout-3 :
+    layout ∷ termsWidth ∷ collateralWidth ∷ guaranteeWidth ∷ sentGuaranteeWidth ∷ sentSwapWidth ∷ recordLength ∷ collateralReportWidth ∷ guaranteeReportWidth ∷ reportLength ∷ []
+    ≡ 3 ∷ 12 ∷ 11 ∷ 11 ∷ 10 ∷ 11 ∷ 366 ∷ 2 ∷ 3 ∷ 83 ∷ []
+layout-3 = refl
 
 -- a party's sovereign's step and the edition, on numbers (02: L5): an unrated bank under a sovereign of step 6 and one that backs it under
 -- one of step 4, opened, added and reported. 150 and 100 under the second edition; 50 both under the first, and 150 both under the third (02:
@@ -164,6 +164,38 @@ floored-reported :
     (listAfter (floored 2) (replicate 83 7) ≡ 1000 ∷ (replicate 32 0 ++ 600 ∷ 0 ∷ 600 ∷ (replicate 45 0 ++ 400 ∷ 1200 ∷ [])))
     × (listAfter (floored 1) (replicate 83 7) ≡ 1000 ∷ (replicate 32 0 ++ 0 ∷ 29 ∷ 0 ∷ (replicate 45 0 ++ 1000 ∷ 500 ∷ [])))
     × (listAfter (floored 3) (replicate 83 7) ≡ 1000 ∷ (replicate 32 0 ++ 0 ∷ 29 ∷ 0 ∷ (replicate 45 0 ++ 1000 ∷ 1500 ∷ [])))
-    × (floored 4 ≡ replicate 350 0)
+    × (floored 4 ≡ replicate 366 0)
 unfolding built computed reportingRefusal listAfter reportNumbers reportIn dealIn slices inOrder answerNumber if_then_else_
 floored-reported = (refl, refl, refl, refl)
+
+-- SWAPS ON NUMBERS. 02: L1
+
+-- a deal of 1,000 by a corporate that weighs 100, with a swap of 2,000 without the condition, in another currency: 600 before it, 552 after a
+-- haircut of 8 percent. With it met, 1,840, of which 1,000 cover
+abbrev swapped : ℕ → List ℕ
+swapped restructuring =
+    numbersWithSwap (openedNumbers (1000 ∷ 3 ∷ 0 ∷ 0 ∷ 978 ∷ 3 ∷ 1 ∷ 1800 ∷ 1 ∷ 0 ∷ 0 ∷ 1 ∷ []))
+    (2000 ∷ 1 ∷ 1 ∷ 0 ∷ 840 ∷ 1800 ∷ 1800 ∷ 1 ∷ 1 ∷ 1 ∷ restructuring ∷ [])
+
+swap-built : swapped 0 ≡ 1000 ∷ 3 ∷ 0 ∷ 0 ∷ 978 ∷ 3 ∷ 1 ∷ 1800 ∷ 1 ∷ 0 ∷ 0 ∷ 1
+    ∷ (replicate 177 0 ++ 1 ∷ 2000 ∷ 1 ∷ 1 ∷ 0 ∷ 840 ∷ 1800 ∷ 1800 ∷ 1 ∷ 1 ∷ 1 ∷ 1 ∷ replicate 165 0)
+unfolding built
+swap-built = refl
+
+swap-reported :
+    (listAfter (swapped 0) (replicate 83 7) ≡ 1000 ∷ (replicate 32 0 ++ 552 ∷ 0 ∷ 552 ∷ (replicate 45 0 ++ 448 ∷ 448 ∷ [])))
+    × (listAfter (swapped 1) (replicate 83 7) ≡ 1000 ∷ (replicate 32 0 ++ 1840 ∷ 0 ∷ 1000 ∷ (replicate 45 0 ++ 0 ∷ 0 ∷ [])))
+    -- an entry that is neither: 8, and the record stays
+    × (addingSwapRefusal (swapped 0) (2000 ∷ 1 ∷ 1 ∷ 0 ∷ 840 ∷ 1800 ∷ 1800 ∷ 1 ∷ 1 ∷ 1 ∷ 18446744073709551615 ∷ []) ≡ 8)
+    × (swapped 2 ≡ openedNumbers (1000 ∷ 3 ∷ 0 ∷ 0 ∷ 978 ∷ 3 ∷ 1 ∷ 1800 ∷ 1 ∷ 0 ∷ 0 ∷ 1 ∷ []))
+    × (swapped 18446744073709551615 ≡ swapped 2)
+    × (numbersWithSwap example promise ≡ example)
+    × (addingSwapRefusal [] promise ≡ 11)
+    × (addingSwapRefusal (replicate 366 0) promise ≡ 11)
+    -- eleven numbers, no more and no less; ten of a guarantee
+    × (addingSwapRefusal example promise ≡ 11)
+    × (addingSwapRefusal example (0 ∷ bond) ≡ 11)
+    × (addingGuaranteeRefusal example (2000 ∷ 1 ∷ 1 ∷ 0 ∷ 840 ∷ 1800 ∷ 1800 ∷ 1 ∷ 1 ∷ 1 ∷ 0 ∷ []) ≡ 11)
+    × (addingSwapRefusal (0 ∷ example) (replicate 11 0) ≡ 40)
+unfolding built computed reportingRefusal listAfter reportNumbers reportIn dealIn slices inOrder answerNumber if_then_else_
+swap-reported = (refl, refl, refl, refl, refl, refl, refl, refl, refl, refl, refl, refl)

@@ -14,14 +14,14 @@ use Rattle.base.proofs.Tests.{not-false, not-true}
 use Rattle.deal.specs.Adding.{addCollateralRefusal, addCollateralTests, addGuaranteeRefusal, addGuaranteeTests, withCollateral, withGuarantee}
 use Rattle.deal.specs.Opening.{openedDeal}
 use Rattle.deal.specs.Records.{withoutProtection}
-use Rattle.deal.specs.Fields.{collateralFields, collateralIn, collateralWidth, guaranteeFields, guaranteeIn, guaranteeWidth, termsFields, termsIn, termsWidth, zeroTerms}
+use Rattle.deal.specs.Fields.{collateralIn, collateralWidth, guaranteeSent, sentGuaranteeWidth, sentSwapWidth, swapSent, termsIn, termsWidth, zeroTerms}
 use Rattle.deal.specs.Terms.{termsRefusal}
 use Rattle.deal.specs.declared.collateral.Collateral.{Collateral}
 use Rattle.deal.specs.declared.deal.Deal.{Deal}
 use Rattle.deal.specs.declared.guarantee.Guarantee.{Guarantee}
 use Rattle.deal.specs.declared.terms.Terms.{Terms}
 use Rattle.deal.proofs.Deals.{collateral-refused, guarantee-refused}
-use Rattle.hadlephoga.specs.Operations.{addingRefusal, numbersWithCollateral, numbersWithGuarantee, openedNumbers, openingTests}
+use Rattle.hadlephoga.specs.Operations.{addingRefusal, numbersWithCollateral, numbersWithGuarantee, numbersWithSwap, openedNumbers, openingTests}
 use Rattle.hadlephoga.specs.Records.{dealIn, dealNumbers, inOrder, recordLength}
 use Rattle.hadlephoga.proofs.Records.{HasPlaces, deal-back, deal-forth, in-places}
 
@@ -114,10 +114,18 @@ module _ (numbers item : List ℕ) (long : length numbers ≡ recordLength) wher
       let same = changed-numbers collateralWidth numbers item (addCollateralTests d c) e long (withCollateral d c) (collateral-refused d c) in
       ap dealIn same ∙ deal-back (withCollateral d c) (with-collateral-places d c (in-places numbers))
 
-  pub guarantee-read : length item ≡ guaranteeWidth → dealIn (numbersWithGuarantee numbers item) ≡ withGuarantee (dealIn numbers) (guaranteeIn item)
+  pub guarantee-read : length item ≡ sentGuaranteeWidth → dealIn (numbersWithGuarantee numbers item) ≡ withGuarantee (dealIn numbers) (guaranteeSent item)
   unfolding numbersWithGuarantee addGuaranteeRefusal
   guarantee-read e =
       let d = dealIn numbers in
-      let g = guaranteeIn item in
-      let same = changed-numbers guaranteeWidth numbers item (addGuaranteeTests d g) e long (withGuarantee d g) (guarantee-refused d g) in
+      let g = guaranteeSent item in
+      let same = changed-numbers sentGuaranteeWidth numbers item (addGuaranteeTests d g) e long (withGuarantee d g) (guarantee-refused d g) in
+      ap dealIn same ∙ deal-back (withGuarantee d g) (with-guarantee-places d g (in-places numbers))
+
+  pub swap-read : length item ≡ sentSwapWidth → dealIn (numbersWithSwap numbers item) ≡ withGuarantee (dealIn numbers) (swapSent item)
+  unfolding numbersWithSwap addGuaranteeRefusal
+  swap-read e =
+      let d = dealIn numbers in
+      let g = swapSent item in
+      let same = changed-numbers sentSwapWidth numbers item (addGuaranteeTests d g) e long (withGuarantee d g) (guarantee-refused d g) in
       ap dealIn same ∙ deal-back (withGuarantee d g) (with-guarantee-places d g (in-places numbers))

@@ -9,5 +9,6 @@ use Prim.Native.Nat.{ℕ}
 
 -- 1: document 01: terms 10, guarantee 9, record 332. It had no number that could be asked for
 -- 2: a party's sovereign's step behind its step, the edition as the last of the terms: terms 12, guarantee 10, record 350
+-- 3: an item's instrument as the last of its numbers in a record (02: L1): guarantee 11, record 366. What is sent to add a guarantee stays ten
 abbrev pub layout : ℕ
-layout = 2
+layout = 3

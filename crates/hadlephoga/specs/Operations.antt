@@ -1,4 +1,4 @@
--- Opening a deal and adding an item for callers in other languages, on numbers. 01: Opening a deal, Adding an item. Of lists of numbers
+-- Opening a deal and adding an item for callers in other languages, on numbers. 01: Opening a deal, Adding an item; 02: L1. Of lists of numbers
 -- the paper says nothing; it says of a book's line that a "wrong number of fields" is 11, which "comes before the operation's own refusals",
 -- and of a lent list that is too short, 13. In order: opening 13, 11, 1 to 5, into a list that may be longer than a record; adding 11, 40, 6, 1
 -- to 5, 7, 8, to a list that is a record
@@ -11,7 +11,7 @@ use Rattle.base.specs.Choice.{if_then_else_}
 use Rattle.base.specs.FirstMet.{Test, _when_, firstMet}
 use Rattle.deal.specs.Adding.{addCollateralTests, addGuaranteeTests, withCollateral, withGuarantee}
 use Rattle.deal.specs.Records.{withoutProtection}
-use Rattle.deal.specs.Fields.{collateralIn, collateralWidth, guaranteeIn, guaranteeWidth, termsIn, termsWidth}
+use Rattle.deal.specs.Fields.{collateralIn, collateralWidth, guaranteeSent, sentGuaranteeWidth, sentSwapWidth, swapSent, termsIn, termsWidth}
 use Rattle.deal.specs.Terms.{termsTests}
 use Rattle.base.specs.Writing.{overwrite}
 use Rattle.hadlephoga.specs.Records.{dealIn, dealNumbers, recordLength}
@@ -46,7 +46,11 @@ abbrev pub addingCollateralRefusal : List ℕ → List ℕ → ℕ
 addingCollateralRefusal numbers item = addingRefusal collateralWidth numbers item (addCollateralTests (dealIn numbers) (collateralIn item))
 
 abbrev pub addingGuaranteeRefusal : List ℕ → List ℕ → ℕ
-addingGuaranteeRefusal numbers item = addingRefusal guaranteeWidth numbers item (addGuaranteeTests (dealIn numbers) (guaranteeIn item))
+addingGuaranteeRefusal numbers item = addingRefusal sentGuaranteeWidth numbers item (addGuaranteeTests (dealIn numbers) (guaranteeSent item))
+
+-- "(A line S is refused as a G is.)": one number more, and the tests of the same list
+abbrev pub addingSwapRefusal : List ℕ → List ℕ → ℕ
+addingSwapRefusal numbers item = addingRefusal sentSwapWidth numbers item (addGuaranteeTests (dealIn numbers) (swapSent item))
 
 -- the record's numbers afterwards. "A refused line leaves the deal as it was before it"
 unfoldable pub numbersWithCollateral : List ℕ → List ℕ → List ℕ
@@ -55,4 +59,8 @@ numbersWithCollateral numbers item =
 
 unfoldable pub numbersWithGuarantee : List ℕ → List ℕ → List ℕ
 numbersWithGuarantee numbers item =
-    if eqb (addingGuaranteeRefusal numbers item) 0 then dealNumbers (withGuarantee (dealIn numbers) (guaranteeIn item)) else numbers
+    if eqb (addingGuaranteeRefusal numbers item) 0 then dealNumbers (withGuarantee (dealIn numbers) (guaranteeSent item)) else numbers
+
+unfoldable pub numbersWithSwap : List ℕ → List ℕ → List ℕ
+numbersWithSwap numbers item =
+    if eqb (addingSwapRefusal numbers item) 0 then dealNumbers (withGuarantee (dealIn numbers) (swapSent item)) else numbers

@@ -4,7 +4,7 @@ ghost use lib.Dec.{eqb};
 ghost use lib.ListN.{length};
 ghost use Rattle.base.specs.Choice.{if_then_else_};
 ghost use Rattle.deal.specs.Answers.{answerNumber};
-ghost use Rattle.hadlephoga.specs.Operations.{addingCollateralRefusal, addingGuaranteeRefusal, numbersWithCollateral, numbersWithGuarantee};
+ghost use Rattle.hadlephoga.specs.Operations.{addingCollateralRefusal, addingGuaranteeRefusal, addingSwapRefusal, numbersWithCollateral, numbersWithGuarantee, numbersWithSwap};
 ghost use Rattle.hadlephoga.specs.Records.{dealNumbers, recordLength};
 use crate::MALFORMED;
 use crate::record::RECORD_LENGTH;
@@ -13,9 +13,10 @@ use crate::writing::put_record;
 use deal::answer::Answer;
 use deal::deal::DealReply;
 use deal::fields::COLLATERAL_WIDTH;
-use deal::fields::GUARANTEE_WIDTH;
+use deal::fields::SENT_GUARANTEE_WIDTH;
+use deal::fields::SENT_SWAP_WIDTH;
 use deal::fields::collateral_in;
-use deal::fields::guarantee_in;
+use deal::fields::guarantee_sent;
 
 // The answer's number; the deal is put where nothing was refused.
 fn put_reply(numbers: &mut [u64], reply: DealReply) -> u64
@@ -53,7 +54,7 @@ pub fn add_guarantee(numbers: &mut [u64], item: &[u64]) -> u64
     ensures { λ r. ⌜ r ≡ addingGuaranteeRefusal (now (numbers .entry)) (now (item .entry)) ⌝ }
     ensures { λ _. ⌜ now (numbers .exit) ≡ numbersWithGuarantee (now (numbers .entry)) (now (item .entry)) ⌝ }
 {
-    if item.len() != GUARANTEE_WIDTH {
+    if item.len() != SENT_GUARANTEE_WIDTH {
         return MALFORMED;
     }
     if numbers.len() != RECORD_LENGTH {
@@ -61,6 +62,22 @@ pub fn add_guarantee(numbers: &mut [u64], item: &[u64]) -> u64
         return answer.number();
     }
     let deal = deal_in(numbers);
-    let reply = deal.add_guarantee(guarantee_in(item));
+    let reply = deal.add_guarantee(guarantee_sent(item));
+    put_reply(numbers, reply)
+}
+
+pub fn add_swap(numbers: &mut [u64], item: &[u64]) -> u64
+    ensures { λ r. ⌜ r ≡ addingSwapRefusal (now (numbers .entry)) (now (item .entry)) ⌝ }
+    ensures { λ _. ⌜ now (numbers .exit) ≡ numbersWithSwap (now (numbers .entry)) (now (item .entry)) ⌝ }
+{
+    if item.len() != SENT_SWAP_WIDTH {
+        return MALFORMED;
+    }
+    if numbers.len() != RECORD_LENGTH {
+        let answer = Answer::RecordNotAccepted;
+        return answer.number();
+    }
+    let deal = deal_in(numbers);
+    let reply = deal.add_swap(guarantee_sent(item), item[SENT_GUARANTEE_WIDTH]);
     put_reply(numbers, reply)
 }

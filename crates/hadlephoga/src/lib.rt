@@ -4,7 +4,7 @@ ghost use mathlib.Core.Path.{_≡_};
 ghost use lib.ListN.{length};
 ghost use Rattle.book.specs.Book.{bookReply, resultsAfter};
 ghost use Rattle.hadlephoga.specs.Layout.{layout};
-ghost use Rattle.hadlephoga.specs.Operations.{addingCollateralRefusal, addingGuaranteeRefusal, listOpened, numbersWithCollateral, numbersWithGuarantee, openingRefusalOf};
+ghost use Rattle.hadlephoga.specs.Operations.{addingCollateralRefusal, addingGuaranteeRefusal, addingSwapRefusal, listOpened, numbersWithCollateral, numbersWithGuarantee, numbersWithSwap, openingRefusalOf};
 ghost use Rattle.hadlephoga.specs.Reports.{listAfter, reportingRefusal};
 
 mod adding;
@@ -16,6 +16,7 @@ mod writing;
 
 use adding::add_collateral;
 use adding::add_guarantee;
+use adding::add_swap;
 use book::answer::answer_book;
 use opening::open_record;
 use record::report_in;
@@ -27,7 +28,7 @@ const MALFORMED: u64 = 11;
 
 const LIST_TOO_SHORT: u64 = 13;
 
-const LAYOUT: u64 = 2;
+const LAYOUT: u64 = 3;
 
 // The number of the layout of all lists of numbers below. A caller built for another one must not go on.
 #[no_mangle]
@@ -74,6 +75,15 @@ pub extern "C" fn hadlephoga_add_guarantee(record: &mut [u64], item: &[u64]) -> 
     ensures { λ _. ⌜ now («record» .exit) ≡ numbersWithGuarantee (now («record» .entry)) (now (item .entry)) ⌝ }
 {
     add_guarantee(record, item)
+}
+
+// Adding a swap, likewise: the numbers of a guarantee, and whether restructuring is a credit event.
+#[no_mangle]
+pub extern "C" fn hadlephoga_add_swap(record: &mut [u64], item: &[u64]) -> u64
+    ensures { λ r. ⌜ r ≡ addingSwapRefusal (now («record» .entry)) (now (item .entry)) ⌝ }
+    ensures { λ _. ⌜ now («record» .exit) ≡ numbersWithSwap (now («record» .entry)) (now (item .entry)) ⌝ }
+{
+    add_swap(record, item)
 }
 
 // Reporting a deal: 13 where the list is too short for a report, otherwise the refusal or 0, and the report's numbers in the list.

@@ -16,7 +16,7 @@ use Rattle.text.specs.Decimal.{decimalFrom}
 use Rattle.lines.specs.Numbers.{digitsOf, numberAllowed, numberRead, numberOf}
 use Rattle.lines.specs.Fields.{fieldOf, isEnd, andThen, withNumber, fieldsOf}
 use Rattle.lines.specs.Sovereign.{widthUnder, withSovereign}
-use Rattle.lines.specs.Lines.{dealLine, collateralLine, guaranteeLine, ifRead, lineOf}
+use Rattle.lines.specs.Lines.{dealLine, collateralLine, guaranteeLine, swapLine, ifRead, lineOf}
 use Rattle.lines.specs.declared.number.Number.{Number}
 use Rattle.lines.specs.declared.number.Number.the-variants.{Value, NoNumber}
 use Rattle.lines.specs.declared.line.Line.{Line}
@@ -68,6 +68,7 @@ said =
       lawful = 1;
       direct = 1;
       «not_in_rating» = 1;
+      instrument = 0;
     })
     ∷ []
 
@@ -79,7 +80,7 @@ lines-read :
     ∷ []
     )
     ≡ said
-unfolding lineOf widthUnder withSovereign dealLine collateralLine guaranteeLine ifRead fieldsOf withNumber andThen isEnd fieldOf numberOf numberRead numberAllowed digitsOf decimalFrom within if_then_else_
+unfolding lineOf widthUnder withSovereign dealLine collateralLine guaranteeLine swapLine ifRead fieldsOf withNumber andThen isEnd fieldOf numberOf numberRead numberAllowed digitsOf decimalFrom within if_then_else_
 lines-read = refl
 
 -- "unknown letter, wrong number of fields, bad number, or no line feed"
@@ -109,7 +110,7 @@ ill =
     ∷ []
 
 all-malformed : map (lineOf 1) ill ≡ replicate 16 Malformed
-unfolding lineOf widthUnder withSovereign dealLine collateralLine guaranteeLine ifRead fieldsOf withNumber andThen isEnd fieldOf numberOf numberRead numberAllowed digitsOf decimalFrom within if_then_else_
+unfolding lineOf widthUnder withSovereign dealLine collateralLine guaranteeLine swapLine ifRead fieldsOf withNumber andThen isEnd fieldOf numberOf numberRead numberAllowed digitsOf decimalFrom within if_then_else_
 all-malformed = refl
 
 -- each field in its place, and none cut to a narrower width
@@ -141,9 +142,10 @@ fields-in-place :
       lawful = 9123456789006;
       direct = 9123456789007;
       «not_in_rating» = 9123456789008;
+      instrument = 0;
     })
     ∷ []
-unfolding lineOf widthUnder withSovereign dealLine collateralLine guaranteeLine ifRead fieldsOf withNumber andThen isEnd fieldOf numberOf numberRead numberAllowed digitsOf decimalFrom within if_then_else_
+unfolding lineOf widthUnder withSovereign dealLine collateralLine guaranteeLine swapLine ifRead fieldsOf withNumber andThen isEnd fieldOf numberOf numberRead numberAllowed digitsOf decimalFrom within if_then_else_
 fields-in-place = refl
 
 -- 100,000 days in each field that holds days (02: L11), whole
@@ -162,7 +164,7 @@ longest-read :
     ∷ []
     )
     ≡ longest
-unfolding lineOf widthUnder withSovereign dealLine collateralLine guaranteeLine ifRead fieldsOf withNumber andThen isEnd fieldOf numberOf numberRead numberAllowed digitsOf decimalFrom within if_then_else_
+unfolding lineOf widthUnder withSovereign dealLine collateralLine guaranteeLine swapLine ifRead fieldsOf withNumber andThen isEnd fieldOf numberOf numberRead numberAllowed digitsOf decimalFrom within if_then_else_
 longest-read = refl
 
 -- of all bytes the tab alone parts fields, and the line feed alone ends them, with nothing before it
@@ -177,7 +179,7 @@ parts-only :
 unfolding isNumber isEnd fieldOf numberOf numberRead numberAllowed digitsOf decimalFrom within if_then_else_
 parts-only = (refl, refl, refl)
 
--- and a line of ten numbers is read behind the letter D alone, one of eleven behind C, one of nine behind G
+-- and a line of ten numbers is read behind the letters D and S alone, one of eleven behind C, one of nine behind G
 unfoldable isRead : Line → Bool
 isRead Malformed = false
 isRead (DealLine terms) = true
@@ -185,10 +187,10 @@ isRead (CollateralLine c) = true
 isRead (GuaranteeLine g) = true
 
 letters-only :
-    (only (byte "D") (λ b. isRead (lineOf 1 (b ∷ bytes "\t1\t1\t1\t1\t1\t1\t1\t1\t1\t1\n"))) ≡ true)
+    (every 256 (λ b. Bool·beq (isRead (lineOf 1 (b ∷ bytes "\t1\t1\t1\t1\t1\t1\t1\t1\t1\t1\n"))) (eqb b (byte "D") || eqb b (byte "S"))) ≡ true)
     × (only (byte "C") (λ b. isRead (lineOf 1 (b ∷ bytes "\t1\t1\t1\t1\t1\t1\t1\t1\t1\t1\t1\n"))) ≡ true)
     × (only (byte "G") (λ b. isRead (lineOf 1 (b ∷ bytes "\t1\t1\t1\t1\t1\t1\t1\t1\t1\n"))) ≡ true)
-unfolding isRead lineOf widthUnder withSovereign dealLine collateralLine guaranteeLine ifRead fieldsOf withNumber andThen isEnd fieldOf numberOf numberRead numberAllowed digitsOf decimalFrom within if_then_else_
+unfolding isRead lineOf widthUnder withSovereign dealLine collateralLine guaranteeLine swapLine ifRead fieldsOf withNumber andThen isEnd fieldOf numberOf numberRead numberAllowed digitsOf decimalFrom within if_then_else_
 letters-only = (refl, refl, refl)
 
 -- THE SOVEREIGN'S STEP. 02: L5
@@ -219,9 +221,10 @@ fields-in-place-2 :
       lawful = 9123456789007;
       direct = 9123456789008;
       «not_in_rating» = 9123456789009;
+      instrument = 0;
     })
     ∷ []
-unfolding lineOf widthUnder withSovereign dealLine collateralLine guaranteeLine ifRead fieldsOf withNumber andThen isEnd fieldOf numberOf numberRead numberAllowed digitsOf decimalFrom within if_then_else_
+unfolding lineOf widthUnder withSovereign dealLine collateralLine guaranteeLine swapLine ifRead fieldsOf withNumber andThen isEnd fieldOf numberOf numberRead numberAllowed digitsOf decimalFrom within if_then_else_
 fields-in-place-2 = refl
 
 -- under the third heading they are as under the second, but for the edition. 02: L9
@@ -238,7 +241,7 @@ fields-in-place-3 :
     ∷ CollateralLine (collateralIn (101 ∷ 102 ∷ 103 ∷ 104 ∷ 105 ∷ 106 ∷ 107 ∷ 108 ∷ 109 ∷ 110 ∷ 111 ∷ []))
     ∷ GuaranteeLine (guaranteeIn (101 ∷ 102 ∷ 103 ∷ 104 ∷ 105 ∷ 106 ∷ 107 ∷ 108 ∷ 109 ∷ 110 ∷ []))
     ∷ replicate 3 Malformed
-unfolding lineOf widthUnder withSovereign dealLine collateralLine guaranteeLine ifRead fieldsOf withNumber andThen isEnd fieldOf numberOf numberRead numberAllowed digitsOf decimalFrom within if_then_else_
+unfolding lineOf widthUnder withSovereign dealLine collateralLine guaranteeLine swapLine ifRead fieldsOf withNumber andThen isEnd fieldOf numberOf numberRead numberAllowed digitsOf decimalFrom within if_then_else_
 fields-in-place-3 = refl
 
 -- under either heading the other's lines D and G are malformed, and lines C are the same
@@ -252,12 +255,57 @@ other-heading :
     (map isRead (map (lineOf 1) lines-1) ∷ map isRead (map (lineOf 2) lines-2) ∷ map isRead (map (lineOf 2) lines-1) ∷ map isRead (map (lineOf 1) lines-2) ∷ []
     ≡ replicate 2 (replicate 2 true) ++ replicate 2 (replicate 2 false))
     × (let c = bytes "C\t500\t1\t0\t0\t978\t30\t30\t1\t1\t1\t0\n" in (lineOf 2 c ≡ lineOf 1 c) × (isRead (lineOf 2 c) ≡ true))
-unfolding isRead lineOf widthUnder withSovereign dealLine collateralLine guaranteeLine ifRead fieldsOf withNumber andThen isEnd fieldOf numberOf numberRead numberAllowed digitsOf decimalFrom within if_then_else_
+unfolding isRead lineOf widthUnder withSovereign dealLine collateralLine guaranteeLine swapLine ifRead fieldsOf withNumber andThen isEnd fieldOf numberOf numberRead numberAllowed digitsOf decimalFrom within if_then_else_
 other-heading = (refl, (refl, refl))
 
--- eleven numbers are read behind the letters D and C alone, ten behind G
+-- eleven numbers are read behind the letters D, C and S alone, ten behind G
 letters-only-2 :
-    (every 256 (λ b. Bool·beq (isRead (lineOf 2 (b ∷ bytes "\t1\t1\t1\t1\t1\t1\t1\t1\t1\t1\t1\n"))) (eqb b (byte "D") || eqb b (byte "C"))) ≡ true)
+    (every 256 (λ b. Bool·beq (isRead (lineOf 2 (b ∷ bytes "\t1\t1\t1\t1\t1\t1\t1\t1\t1\t1\t1\n"))) (eqb b (byte "D") || eqb b (byte "C") || eqb b (byte "S"))) ≡ true)
     × (only (byte "G") (λ b. isRead (lineOf 2 (b ∷ bytes "\t1\t1\t1\t1\t1\t1\t1\t1\t1\t1\n"))) ≡ true)
-unfolding isRead lineOf widthUnder withSovereign dealLine collateralLine guaranteeLine ifRead fieldsOf withNumber andThen isEnd fieldOf numberOf numberRead numberAllowed digitsOf decimalFrom within if_then_else_
+unfolding isRead lineOf widthUnder withSovereign dealLine collateralLine guaranteeLine swapLine ifRead fieldsOf withNumber andThen isEnd fieldOf numberOf numberRead numberAllowed digitsOf decimalFrom within if_then_else_
 letters-only-2 = (refl, refl)
+
+-- LINES OF SWAPS. 02: L1
+
+-- as G, and the condition behind: under the first heading ten numbers, under the others eleven with the sovereign's step. The entry of the
+-- condition reaches the operation whatever it is; only 0 and 1 are an instrument's
+swaps-read :
+    (map (lineOf 1) (
+    bytes "S\t101\t102\t103\t105\t106\t107\t108\t109\t110\t0\n"
+    ∷ bytes "S\t101\t102\t103\t105\t106\t107\t108\t109\t110\t1\n"
+    ∷ bytes "S\t101\t102\t103\t105\t106\t107\t108\t109\t110\t2\n"
+    ∷ bytes "S\t9123456789000\t9123456789001\t9123456789002\t9123456789003\t9123456789004\t9123456789005\t9123456789006\t9123456789007\t9123456789008\t9123456789009\n"
+    ∷ [])
+    ≡ GuaranteeLine (guaranteeIn (101 ∷ 102 ∷ 103 ∷ 0 ∷ 105 ∷ 106 ∷ 107 ∷ 108 ∷ 109 ∷ 110 ∷ 1 ∷ []))
+    ∷ GuaranteeLine (guaranteeIn (101 ∷ 102 ∷ 103 ∷ 0 ∷ 105 ∷ 106 ∷ 107 ∷ 108 ∷ 109 ∷ 110 ∷ 2 ∷ []))
+    ∷ GuaranteeLine (guaranteeIn (101 ∷ 102 ∷ 103 ∷ 0 ∷ 105 ∷ 106 ∷ 107 ∷ 108 ∷ 109 ∷ 110 ∷ 3 ∷ []))
+    ∷ GuaranteeLine (guaranteeIn (9123456789000 ∷ 9123456789001 ∷ 9123456789002 ∷ 0 ∷ 9123456789003 ∷ 9123456789004 ∷ 9123456789005 ∷ 9123456789006 ∷ 9123456789007 ∷ 9123456789008 ∷ 3 ∷ []))
+    ∷ [])
+    × (map (λ edition. lineOf edition (bytes "S\t101\t102\t103\t104\t105\t106\t107\t108\t109\t110\t0\n")) (2 ∷ 3 ∷ [])
+    ≡ replicate 2 (GuaranteeLine (guaranteeIn (101 ∷ 102 ∷ 103 ∷ 104 ∷ 105 ∷ 106 ∷ 107 ∷ 108 ∷ 109 ∷ 110 ∷ 1 ∷ []))))
+    × (map (λ edition. lineOf edition (bytes "S\t101\t102\t103\t104\t105\t106\t107\t108\t109\t110\t1\n")) (2 ∷ 3 ∷ [])
+    ≡ replicate 2 (GuaranteeLine (guaranteeIn (101 ∷ 102 ∷ 103 ∷ 104 ∷ 105 ∷ 106 ∷ 107 ∷ 108 ∷ 109 ∷ 110 ∷ 2 ∷ []))))
+unfolding lineOf widthUnder withSovereign dealLine collateralLine guaranteeLine swapLine ifRead fieldsOf withNumber andThen isEnd fieldOf numberOf numberRead numberAllowed digitsOf decimalFrom within if_then_else_
+swaps-read = (refl, refl, refl)
+
+-- one number more or less, a G's numbers, no line feed, a small letter: malformed
+swaps-malformed :
+    (map (lineOf 1) (
+    bytes "S\t5\t1\t1\t978\t30\t30\t1\t1\t1\n"
+    ∷ bytes "S\t5\t1\t1\t0\t978\t30\t30\t1\t1\t1\t0\n"
+    ∷ bytes "S\t5\t1\t1\t978\t30\t30\t1\t1\t1\t0"
+    ∷ bytes "s\t5\t1\t1\t978\t30\t30\t1\t1\t1\t0\n"
+    ∷ bytes "S\t5\t1\t1\t978\t30\t30\t1\t1\t1\t\n"
+    ∷ bytes "G\t5\t1\t1\t978\t30\t30\t1\t1\t1\t0\n"
+    ∷ [])
+    ≡ replicate 6 Malformed)
+    × (map (lineOf 2) (
+    bytes "S\t5\t1\t1\t978\t30\t30\t1\t1\t1\t0\n"
+    ∷ bytes "S\t5\t1\t1\t0\t978\t30\t30\t1\t1\t1\t0\t0\n"
+    ∷ bytes "S\t5\t1\t1\t0\t978\t30\t30\t1\t1\t1\t0"
+    ∷ bytes "s\t5\t1\t1\t0\t978\t30\t30\t1\t1\t1\t0\n"
+    ∷ bytes "G\t5\t1\t1\t0\t978\t30\t30\t1\t1\t1\t0\n"
+    ∷ [])
+    ≡ replicate 5 Malformed)
+unfolding lineOf widthUnder withSovereign dealLine collateralLine guaranteeLine swapLine ifRead fieldsOf withNumber andThen isEnd fieldOf numberOf numberRead numberAllowed digitsOf decimalFrom within if_then_else_
+swaps-malformed = (refl, refl)

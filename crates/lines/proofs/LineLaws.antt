@@ -10,9 +10,9 @@ use lib.Seq.{getD-drop, getD-take}
 use Rattle.base.specs.Choice.{if_then_else_}
 use Rattle.base.specs.Places.{inPlaces}
 use Rattle.base.proofs.Placed.{places-hold}
-use Rattle.deal.specs.Fields.{guaranteeIn, termsUnder}
+use Rattle.deal.specs.Fields.{guaranteeSent, swapSent, termsUnder}
 use Rattle.lines.specs.Fields.{fieldsHeld, mostFields}
-use Rattle.lines.specs.Lines.{dealLine, collateralLine, guaranteeLine, ifRead, ifHeld}
+use Rattle.lines.specs.Lines.{dealLine, collateralLine, guaranteeLine, swapLine, ifRead, ifHeld}
 use Rattle.lines.specs.declared.line.Line.{Line}
 use Rattle.lines.proofs.SovereignLaws.{sovereign-same}
 
@@ -46,6 +46,10 @@ pub guarantee-held : (edition : ℕ) (o : Option (List ℕ)) → ifHeld (guarant
 unfolding guaranteeLine
 guarantee-held edition = held (guaranteeLine edition) (λ vs. simp (sovereign-same edition (inPlaces 11 0 vs) vs (held-at vs)))
 
+pub swap-held : (edition : ℕ) (o : Option (List ℕ)) → ifHeld (swapLine edition) (fieldsHeld o) ≡ ifRead (swapLine edition) o
+unfolding swapLine
+swap-held edition = held (swapLine edition) (λ vs. simp (sovereign-same edition (inPlaces 11 0 vs) vs (held-at vs)))
+
 -- as many fields as are held say what the whole of them would say
 module _ (l : List ℕ) where
   at : (k : ℕ) → k < mostFields → getD (take mostFields l) k 0 ≡ getD l k 0
@@ -54,5 +58,8 @@ module _ (l : List ℕ) where
   pub whole-terms : (edition : ℕ) → termsUnder edition (take mostFields l) ≡ termsUnder edition l
   whole-terms edition = rw (at 0 (omega arith), at 1 (omega arith), at 2 (omega arith), at 3 (omega arith), at 4 (omega arith), at 5 (omega arith), at 6 (omega arith), at 7 (omega arith), at 8 (omega arith), at 9 (omega arith), at 10 (omega arith))
 
-  pub whole-guarantee : guaranteeIn (take mostFields l) ≡ guaranteeIn l
+  pub whole-guarantee : guaranteeSent (take mostFields l) ≡ guaranteeSent l
   whole-guarantee = rw (at 0 (omega arith), at 1 (omega arith), at 2 (omega arith), at 3 (omega arith), at 4 (omega arith), at 5 (omega arith), at 6 (omega arith), at 7 (omega arith), at 8 (omega arith), at 9 (omega arith))
+
+  pub whole-swap : swapSent (take mostFields l) ≡ swapSent l
+  whole-swap = rw (at 0 (omega arith), at 1 (omega arith), at 2 (omega arith), at 3 (omega arith), at 4 (omega arith), at 5 (omega arith), at 6 (omega arith), at 7 (omega arith), at 8 (omega arith), at 9 (omega arith), at 10 (omega arith))

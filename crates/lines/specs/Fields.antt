@@ -41,7 +41,7 @@ unfoldable pub fieldsOf : ℕ → List ℕ → Option (List ℕ)
 fieldsOf zero rest = if isEnd rest then some [] else none
 fieldsOf (suc n) rest = withNumber (fieldOf rest) none (λ value count. andThen value (fieldsOf n (drop (1 + count) rest)))
 
--- the longest lines are C, and D with the sovereign's step
+-- the longest lines are C, and D and S with the sovereign's step
 abbrev pub mostFields : ℕ
 mostFields = collateralWidth
 

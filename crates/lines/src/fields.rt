@@ -9,7 +9,7 @@ use deal::fields::COLLATERAL_WIDTH;
 use text::LINE_FEED;
 use text::TAB;
 
-// Of the longest lines, C, and D with the sovereign's step.
+// Of the longest lines, C, and D and S with the sovereign's step.
 pub const MOST_FIELDS: usize = COLLATERAL_WIDTH;
 
 pub struct Fields {

@@ -1,16 +1,18 @@
 // What a line says.
 ghost use mathlib.Core.Path.{_≡_};
-ghost use Rattle.lines.specs.Lines.{collateralLine, dealLine, guaranteeLine, ifHeld, lineOf};
+ghost use Rattle.lines.specs.Lines.{collateralLine, dealLine, guaranteeLine, ifHeld, lineOf, swapLine};
 use crate::fields::Fields;
 use crate::fields::read_fields;
 use crate::sovereign::width_under;
 use crate::sovereign::with_sovereign;
 use deal::collateral::Collateral;
 use deal::fields::COLLATERAL_WIDTH;
-use deal::fields::GUARANTEE_WIDTH;
+use deal::fields::SENT_GUARANTEE_WIDTH;
+use deal::fields::SENT_SWAP_WIDTH;
 use deal::fields::TERMS_WIDTH;
 use deal::fields::collateral_in;
-use deal::fields::guarantee_in;
+use deal::fields::guarantee_sent;
+use deal::fields::swap_sent;
 use deal::fields::terms_under;
 use deal::guarantee::Guarantee;
 use deal::terms::Terms;
@@ -18,6 +20,7 @@ use deal::terms::Terms;
 pub enum Line {
     DealLine(Terms),
     CollateralLine(Collateral),
+    // Of a guarantee or a swap.
     GuaranteeLine(Guarantee),
     Malformed,
 }
@@ -56,7 +59,19 @@ fn guarantee_line(edition: u64, fields: Fields) -> Line
     }
     let values = fields.values;
     let own = with_sovereign(edition, values);
-    let said = guarantee_in(&own);
+    let said = guarantee_sent(&own);
+    Line::GuaranteeLine(said)
+}
+
+fn swap_line(edition: u64, fields: Fields) -> Line
+    ensures { λ r. ⌜ r ≡ ifHeld (swapLine edition) fields ⌝ }
+{
+    if !fields.read {
+        return Line::Malformed;
+    }
+    let values = fields.values;
+    let own = with_sovereign(edition, values);
+    let said = swap_sent(&own);
     Line::GuaranteeLine(said)
 }
 
@@ -76,8 +91,12 @@ pub fn read_line(edition: u64, line: &[u8]) -> Line
         }
         b'C' => collateral_line(read_fields(&line[at..], COLLATERAL_WIDTH)),
         b'G' => {
-            let width = width_under(edition, GUARANTEE_WIDTH);
+            let width = width_under(edition, SENT_GUARANTEE_WIDTH);
             guarantee_line(edition, read_fields(&line[at..], width))
+        }
+        b'S' => {
+            let width = width_under(edition, SENT_SWAP_WIDTH);
+            swap_line(edition, read_fields(&line[at..], width))
         }
         _ => Line::Malformed,
     }

@@ -1,9 +1,10 @@
 -- Reports at some edges, computed: the order of the grounds, and what a misreading would change. Assumes nothing.
 use Prim.Native.Nat.{ℕ}
 use mathlib.Core.Path.{_≡_, refl}
-use mathlib.Core.List.{List, [], _∷_, map}
+use mathlib.Core.List.{List, [], _∷_, _++_, map}
 use lib.ListN.{getD, replicate, take}
-use Rattle.deal.specs.Fields.{collateralIn, guaranteeIn, termsIn}
+use Rattle.deal.specs.Fields.{collateralIn, guaranteeIn, guaranteeSent, swapSent, termsIn}
+use Rattle.deal.specs.Instruments.{asSwap}
 use Rattle.deal.specs.Records.{dealWith}
 use Rattle.deal.specs.declared.terms.Terms.{Terms}
 use Rattle.deal.specs.declared.collateral.Collateral.{Collateral}
@@ -41,6 +42,7 @@ guarantee class currency residual original lawful direct «not_in_rating» = rec
   lawful = lawful;
   direct = direct;
   «not_in_rating» = «not_in_rating»;
+  instrument = 0;
 }
 
 -- what is reported of the items
@@ -126,6 +128,7 @@ pub equal-weight : guaranteeGrounds (loan 2) (record {
   lawful = 1;
   direct = 1;
   «not_in_rating» = 1;
+  instrument = 0;
 } ∷ []) 1 ≡ 29 ∷ []
 unfolding computed
 equal-weight = refl
@@ -238,3 +241,82 @@ pledged-by-edition :
     ∷ []
 unfolding computed
 pledged-by-edition = refl
+
+-- SWAPS. 02: L1
+
+-- to a corporate that weighs 100, of this amount; a swap of a sovereign that weighs 0
+abbrev hedged : ℕ → Terms
+hedged amount = termsIn (amount ∷ 3 ∷ 0 ∷ 0 ∷ 978 ∷ 3 ∷ 1 ∷ 1800 ∷ 1 ∷ 0 ∷ 0 ∷ 1 ∷ [])
+
+abbrev swapOf : ℕ → ℕ → ℕ → ℕ → Guarantee
+swapOf amount currency residual restructuring = swapSent (amount ∷ 1 ∷ 1 ∷ 0 ∷ currency ∷ residual ∷ 1800 ∷ 1 ∷ 1 ∷ 1 ∷ restructuring ∷ [])
+
+-- its value: below the deal's amount, at it and above it, rounded down before anything else; with the condition met, whole
+swap-values :
+    guaranteeValues (hedged 1001) (map (λ a. swapOf a 978 1800 0) (0 ∷ 1 ∷ 2 ∷ 3 ∷ 999 ∷ 1000 ∷ 1001 ∷ 1002 ∷ 1000000000000 ∷ [])) 9
+    ∷ guaranteeValues (hedged 1001) (map (λ a. swapOf a 978 1800 1) (0 ∷ 1 ∷ 2 ∷ 3 ∷ 999 ∷ 1000 ∷ 1001 ∷ 1002 ∷ 1000000000000 ∷ [])) 9
+    ∷ guaranteeValues (hedged 1000000000000) (swapOf 1000000000000 978 1800 0 ∷ []) 1
+    ∷ []
+    ≡ (0 ∷ 0 ∷ 1 ∷ 1 ∷ 599 ∷ 600 ∷ 600 ∷ 600 ∷ 600 ∷ [])
+    ∷ (0 ∷ 1 ∷ 2 ∷ 3 ∷ 999 ∷ 1000 ∷ 1001 ∷ 1002 ∷ 1000000000000 ∷ [])
+    ∷ (600000000000 ∷ [])
+    ∷ []
+unfolding computed
+swap-values = refl
+
+-- cut, then the currency, then the mismatch: 128, 76, 69, and 25, 15, 7; 20, 12, 11, 5 in all three. The other ways round 70, 6 and 4
+swap-order :
+    guaranteeValues (hedged 1000) (swapOf 128 840 1800 0 ∷ swapOf 25 978 900 0 ∷ swapOf 20 840 900 0 ∷ swapOf 128 840 1800 1 ∷ []) 4
+    ≡ 69 ∷ 7 ∷ 5 ∷ 117 ∷ []
+unfolding computed
+swap-order = refl
+
+-- the deal's amount counts, and neither E* nor the raised exposure: 1,000 with 500 in cash; 1,000 of equity lent, raised to 1,250 and more
+swap-of-the-deal :
+    (reportOf (dealWith (hedged 1000) (collateralIn (500 ∷ 1 ∷ 0 ∷ 0 ∷ 978 ∷ 1800 ∷ 1800 ∷ 1 ∷ 1 ∷ 1 ∷ 0 ∷ []) ∷ []) (swapOf 2000 978 1800 0 ∷ [])) .rwa ≡ 0)
+    × (guaranteeValues (termsIn (1000 ∷ 3 ∷ 0 ∷ 0 ∷ 978 ∷ 1 ∷ 6 ∷ 1800 ∷ 8 ∷ 0 ∷ 0 ∷ 1 ∷ [])) (swapOf 2000 978 1800 0 ∷ []) 1 ≡ 600 ∷ [])
+unfolding computed
+swap-of-the-deal = (refl, refl)
+
+-- every ground in the order of a guarantee's, whatever the condition
+swap-grounds :
+    map (λ r. guaranteeGrounds (loan 1) (map (asSwap r) guarantees) 7) (0 ∷ 1 ∷ [])
+    ≡ replicate 2 (21 ∷ 27 ∷ 23 ∷ 28 ∷ 25 ∷ 26 ∷ 29 ∷ [])
+unfolding computed
+swap-grounds = refl
+
+-- one order of weight over both, equal weights by arrival: banks at 20, then a swap at 0, a guarantee at 0, and a swap at 20
+abbrev shared : List Guarantee
+shared =
+    guaranteeSent (400 ∷ 2 ∷ 1 ∷ 0 ∷ 978 ∷ 1800 ∷ 1800 ∷ 1 ∷ 1 ∷ 1 ∷ [])
+    ∷ swapOf 500 978 1800 0
+    ∷ guaranteeSent (200 ∷ 1 ∷ 1 ∷ 0 ∷ 978 ∷ 1800 ∷ 1800 ∷ 1 ∷ 1 ∷ 1 ∷ [])
+    ∷ swapSent (300 ∷ 2 ∷ 1 ∷ 0 ∷ 978 ∷ 1800 ∷ 1800 ∷ 1 ∷ 1 ∷ 1 ∷ 1 ∷ [])
+    ∷ []
+
+swap-cover :
+    (let r = reportOf (dealWith (hedged 1000) [] shared) in map (λ g. g .portion) (take 4 (r .guarantees)) ++ (r .uncovered ∷ r .rwa ∷ []))
+    ≡ 400 ∷ 300 ∷ 200 ∷ 100 ∷ 0 ∷ 100 ∷ []
+unfolding computed
+swap-cover = refl
+
+-- at equal weights the one that arrives first, a swap as well as a guarantee: 400 each at 20 over 500
+abbrev tied : List Guarantee
+tied =
+    swapSent (400 ∷ 2 ∷ 1 ∷ 0 ∷ 978 ∷ 1800 ∷ 1800 ∷ 1 ∷ 1 ∷ 1 ∷ 1 ∷ [])
+    ∷ guaranteeSent (400 ∷ 2 ∷ 1 ∷ 0 ∷ 978 ∷ 1800 ∷ 1800 ∷ 1 ∷ 1 ∷ 1 ∷ [])
+    ∷ swapSent (400 ∷ 2 ∷ 1 ∷ 0 ∷ 978 ∷ 1800 ∷ 1800 ∷ 1 ∷ 1 ∷ 1 ∷ 0 ∷ [])
+    ∷ []
+
+swap-ties : map (λ g. g .portion) (take 3 (reportOf (dealWith (hedged 500) [] tied) .guarantees)) ≡ 400 ∷ 100 ∷ 0 ∷ []
+unfolding computed
+swap-ties = refl
+
+-- what is cut covers at its provider's own weight: 300 of a bank at 20, and of an other entity at 20; 5,400 of an unrated bank at 100, under a sovereign of step 4 and the second
+-- edition, for a corporate that weighs 150. And in deals of every kind, sixteen of them: 60 each
+swap-weights :
+    (map (λ class. reportOf (dealWith (hedged 1000) [] (swapSent (500 ∷ class ∷ 1 ∷ 0 ∷ 978 ∷ 1800 ∷ 1800 ∷ 1 ∷ 1 ∷ 1 ∷ 0 ∷ []) ∷ [])) .rwa) (1 ∷ 2 ∷ 3 ∷ []) ≡ 700 ∷ 760 ∷ 760 ∷ [])
+    × ((reportOf (dealWith (unrated 3 2 6) [] (swapSent (9000 ∷ 2 ∷ 0 ∷ 4 ∷ 978 ∷ 1800 ∷ 1800 ∷ 1 ∷ 1 ∷ 1 ∷ 0 ∷ []) ∷ [])) .rwa ≡ 12300)
+    × (map (λ kind. reportOf (dealWith (termsIn (1000 ∷ 3 ∷ 0 ∷ 0 ∷ 978 ∷ kind ∷ 1 ∷ 1800 ∷ 1 ∷ 0 ∷ 0 ∷ 1 ∷ [])) [] (replicate 16 (swapOf 100 978 1800 0))) .rwa) (1 ∷ 2 ∷ 3 ∷ []) ≡ replicate 3 40))
+unfolding computed
+swap-weights = (refl, (refl, refl))

@@ -2,6 +2,7 @@ pub mod Cases
 pub mod Assembly
 pub mod ByNumber
 pub mod Computed
+pub mod Hedged
 pub mod Outcomes
 pub mod Recognition
 pub mod Reports

@@ -29,8 +29,9 @@ use Rattle.deal.specs.declared.guarantee.Guarantee.{Guarantee}
 use Rattle.relief.specs.Outcomes.{outcomeValue}
 use Rattle.relief.specs.Weights.{counterpartyWeightOf, providerWeightOf}
 use Rattle.relief.specs.Collateral.{collateralValue, collateralGrounds, collateralGround, collateralOutcome}
-use Rattle.relief.specs.Guarantees.{guaranteeValue, guaranteeGrounds, guaranteeGround, guaranteeOutcome, protectionOf}
+use Rattle.relief.specs.Guarantees.{hedgedAmount, guaranteeValue, guaranteeGrounds, guaranteeGround, guaranteeOutcome, protectionOf}
 use Rattle.relief.specs.Exposure.{exposureAfter, scaledLentHaircut, piecesOf}
+use Rattle.relief.proofs.Hedged.{hedged-le}
 use Rattle.relief.proofs.Outcomes.{value-bound}
 use Rattle.relief.proofs.Recognition.{collateral-leaves, guarantee-leaves}
 
@@ -47,7 +48,8 @@ module _ (table : Table) (t : Terms) where
 
   pub guarantee-le : (g : Guarantee) → outcomeValue (guaranteeOutcome table t g) ≤ g .amount
   unfolding guaranteeOutcome guaranteeGround guaranteeValue
-  guarantee-le g = value-bound _ (g .amount) (guaranteeGrounds table t g) (guarantee-leaves table t _ g) (recognised-le (g .amount) _ _ _)
+  guarantee-le g =
+      value-bound _ (g .amount) (guaranteeGrounds table t g) (guarantee-leaves table t _ g) (le-trans (recognised-le (hedgedAmount t g) _ _ _) (hedged-le t g))
 
 -- the goods lent
 pub scaled-lent-haircut-bound : (t : Terms) → PlainTerms t → scaledLentHaircut (tableFor t) t ≤ 10000000

@@ -1,16 +1,19 @@
--- Which guarantees are recognised, what they are worth, and what they cover with, under a table. 01: Grounds for leaving an item out; From
--- items to the weighted amount, 1 and 2
+-- Which guarantees and swaps are recognised, what they are worth, and what they cover with, under a table. 01: Grounds for leaving an item out;
+-- From items to the weighted amount, 1 and 2; 02: L1
 use Prim.Native.Nat.{ℕ}
 use mathlib.Core.Bool.{Bool, _&&_}
 use mathlib.Core.List.{List, [], _∷_}
 use lib.Dec.{leb, eqb}
+use Rattle.base.specs.Choice.{if_then_else_}
 use Rattle.base.specs.FirstMet.{Test, _when_, firstMet}
 use Rattle.tables.specs.Classes.{otherEntity}
 use Rattle.tables.specs.Table.{Table}
 use Rattle.scaling.specs.Period.{guaranteePeriod}
 use Rattle.valuation.specs.Haircuts.{scaledCurrencyHaircut}
 use Rattle.valuation.specs.Protection.{recognised}
+use Rattle.valuation.specs.Restructuring.{partiallyRecognised}
 use Rattle.cover.specs.declared.protection.Protection.{Protection}
+use Rattle.deal.specs.Instruments.{swapWithoutRestructuring}
 use Rattle.deal.specs.declared.terms.Terms.{Terms}
 use Rattle.deal.specs.declared.guarantee.Guarantee.{Guarantee}
 use Rattle.relief.specs.declared.outcome.Outcome.{Outcome}
@@ -22,12 +25,19 @@ use Rattle.relief.specs.Weights.{counterpartyWeightOf, providerWeightOf}
 abbrev pub isUnratedEntity : Guarantee → Bool
 isUnratedEntity g = eqb (g .provider .class) otherEntity && eqb (g .provider .step) 0
 
--- what it is worth where no ground leaves it out: "Guarantees have only the currency haircut", which "always uses n = interval + 9"
+-- the amount that is hedged: of a swap without the restructuring condition, "first cut .. of the smaller of the swap and the deal's amount" (02: L1;
+-- CRE22.87); of a swap with it, and of a guarantee, its whole amount
+unfoldable pub hedgedAmount : Terms → Guarantee → ℕ
+hedgedAmount t g = if eqb (g .instrument) swapWithoutRestructuring then partiallyRecognised (g .amount) (t .amount) else g .amount
+
+-- what it is worth where no ground leaves it out: "Guarantees have only the currency haircut", which "always uses n = interval + 9". Of a swap,
+-- "Currency and maturity follow as for a guarantee, with its grounds" (02: L1)
 unfoldable pub guaranteeValue : Terms → Guarantee → ℕ
 guaranteeValue t g =
-    recognised (g .amount) (scaledCurrencyHaircut (g .currency) (t .currency) (guaranteePeriod (t .interval))) (g .residual) (t .residual)
+    recognised (hedgedAmount t g) (scaledCurrencyHaircut (g .currency) (t .currency) (guaranteePeriod (t .interval))) (g .residual) (t .residual)
 
--- "21; 27 not direct; 23; 28 other entity unrated; 25; 26; 29 provider's weight not below the counterparty's". Direct is CRE22.84, CRE22.85
+-- "21; 27 not direct; 23; 28 other entity unrated; 25; 26; 29 provider's weight not below the counterparty's". Direct is CRE22.84, with
+-- CRE22.85 of a guarantee and CRE22.86 of a swap
 unfoldable pub guaranteeGrounds : Table → Terms → Guarantee → List (Test ℕ)
 guaranteeGrounds table t g =
     21 when eqb (g .lawful) 0

@@ -1,4 +1,4 @@
-// What one guarantee is worth, and at which risk weight.
+// What one guarantee or swap is worth, and at which risk weight.
 ghost use mathlib.Core.Path.{_≡_};
 ghost use Prim.Native.Nat.{_≤_};
 ghost use Rattle.deal.specs.Editions.{tableFor};
@@ -7,19 +7,21 @@ ghost use Rattle.scaling.specs.Period.{guaranteePeriod};
 ghost use Rattle.scaling.specs.TimeFactor.{IsTimeFactor};
 ghost use Rattle.valuation.specs.Haircuts.{scaledCurrencyHaircut};
 ghost use Rattle.relief.specs.Weights.{counterpartyWeightOf, providerWeightOf};
-ghost use Rattle.relief.specs.Guarantees.{guaranteeOutcome, isUnratedEntity, protectionOf};
+ghost use Rattle.relief.specs.Guarantees.{guaranteeOutcome, hedgedAmount, isUnratedEntity, protectionOf};
 use crate::ground::Ground;
 use crate::maturity::short_original;
 use crate::maturity::short_residual;
 use crate::outcome::Outcome;
 use cover::protection::Protection;
 use deal::guarantee::Guarantee;
+use deal::instrument::SWAP_WITHOUT_RESTRUCTURING;
 use deal::terms::Terms;
 use scaling::factor::TimeFactor;
 use tables::classes::OTHER_ENTITY;
 use tables::editions::provider_weight_under;
 use valuation::haircuts::scaled_currency_haircut;
 use valuation::protection::recognised;
+use valuation::restructuring::partially_recognised;
 
 // What is reported of it.
 pub struct GuaranteeReport {
@@ -42,6 +44,17 @@ fn unrated_entity(item: Guarantee) -> bool
         return false;
     }
     provider.step == 0
+}
+
+// The amount that is hedged: not the whole of a swap for which restructuring is no credit event.
+fn hedged_amount(terms: Terms, item: Guarantee) -> u64
+    requires { ⌜ item .amount ≤ 1000000000000 ⌝ }
+    ensures { λ r. ⌜ r ≡ hedgedAmount terms item ⌝ }
+{
+    if item.instrument == SWAP_WITHOUT_RESTRUCTURING {
+        return partially_recognised(item.amount, terms.amount);
+    }
+    item.amount
 }
 
 // The first ground that applies, or the value after this haircut. `weight` is the provider's, `counterparty_weight` the counterparty's.
@@ -77,7 +90,8 @@ fn outcome_after_haircut(
     if weight >= counterparty_weight {
         return Outcome::LeftOut(Ground::WeightNotBelow);
     }
-    Outcome::Valued(recognised(item.amount, haircut, item.residual, terms.residual))
+    let hedged = hedged_amount(terms, item);
+    Outcome::Valued(recognised(hedged, haircut, item.residual, terms.residual))
 }
 
 // One guarantee; `counterparty_weight` is the counterparty's, `factor` that of the guarantees' period.

@@ -1,4 +1,4 @@
-// What all guarantees of a deal are worth, before they cover anything.
+// What all guarantees and swaps of a deal are worth, before they cover anything.
 ghost use mathlib.Core.Bool.{true};
 ghost use mathlib.Core.List.{map};
 ghost use mathlib.Core.Path.{_≡_};
@@ -27,7 +27,7 @@ pub struct GuaranteeValues {
     pub protections: [Protection; Deal::GUARANTEE_LIMIT],
 }
 
-// Every guarantee of a deal.
+// Every guarantee and swap of a deal.
 pub fn value_guarantees(
     terms: Terms,
     list: GuaranteeList,

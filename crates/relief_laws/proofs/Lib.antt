@@ -2,6 +2,7 @@ pub mod Haircuts
 pub mod Values
 pub mod Rounded
 pub mod NoWorse
+pub mod Hedged
 pub mod Unmet
 pub mod Recognition
 pub mod Amounts

@@ -6,6 +6,7 @@ use mathlib.Core.Logic.{_⊎_}
 use native.Mathlib.Omega.{arith}
 use Rattle.base.specs.Sum.{sumOf}
 use Rattle.tables.specs.Table.{NoWorseStep}
+use Rattle.deal.specs.Instruments.{swapWithRestructuring, swapWithoutRestructuring}
 use Rattle.deal.proofs.Plain.{PlainTerms, PlainCollateral, PlainGuarantee}
 use Rattle.deal.specs.declared.terms.Terms.{Terms}
 use Rattle.deal.specs.declared.collateral.Collateral.{Collateral}
@@ -59,7 +60,12 @@ pub record NoWorseCollateral (dealCurrency : ℕ) (c c′ : Collateral) : Type 0
   pub step : SameOrBetter (c .asset .step) (c′ .asset .step)
   pub currency : SameOrDeals dealCurrency (c .currency) (c′ .currency)
 
--- Guarantees: the same provider's class, no lower an amount, term or condition, no worse a step, sovereign's step or currency
+-- Guarantees and swaps: the same provider's class, no lower an amount, term or condition, no worse a step, sovereign's step or currency; a
+-- guarantee still, or a swap whose own condition is met where it was
+
+-- the same instrument, or a swap whose condition is now met
+abbrev pub SameOrNowMet : ℕ → ℕ → Type 0
+SameOrNowMet instrument instrument′ = (instrument′ ≡ instrument) ⊎ ((instrument ≡ swapWithoutRestructuring) × (instrument′ ≡ swapWithRestructuring))
 
 pub record NoLowerGuarantee (g g′ : Guarantee) : Type 0 where
   pub amount : g .amount ≤ g′ .amount
@@ -77,6 +83,7 @@ pub record NoWorseGuarantee (dealCurrency : ℕ) (g g′ : Guarantee) : Type 0 w
   pub step : SameOrBetter (g .provider .step) (g′ .provider .step)
   pub «sovereign_step» : SameOrBetter (g .provider .«sovereign_step») (g′ .provider .«sovereign_step»)
   pub currency : SameOrDeals dealCurrency (g .currency) (g′ .currency)
+  pub instrument : SameOrNowMet (g .instrument) (g′ .instrument)
 
 -- Lists
 

@@ -29,6 +29,7 @@ use Rattle.relief.proofs.Recognition.{_also_, collateral-leaves, guarantee-leav
 use Rattle.relief_laws.proofs.Haircuts.{period-mono, guarantee-mono, currency-mono, currency-same, collateral-mono, collateral-same}
 use Rattle.relief_laws.proofs.Values.{recognised-mono, value-mono}
 use Rattle.relief_laws.proofs.NoWorse.{SameOrBetter, SameOrDeals, NoWorseTerms, NoWorseCollateral, NoWorseGuarantee}
+use Rattle.relief_laws.proofs.Hedged.{hedged-no-less}
 use Rattle.relief_laws.proofs.Unmet.{condition-stays, original-stays, residual-stays, rated-stays, weight-stays}
 
 -- Of any table
@@ -148,7 +149,7 @@ module _ {table : Table} (laws : TableLaws table) where
       unfolding guaranteeValue
       guaranteed-no-less =
           let haircut = currency-no-more (terms .fields .currency) (item .currency) (guarantee-mono (terms .fields .interval)) in
-          recognised-no-less (terms .fields .residual) (item .fields .amount) haircut (item .fields .residual)
+          recognised-no-less (terms .fields .residual) (hedged-no-less t t′ g g′ (terms .fields .amount) (item .fields .amount) (item .instrument)) haircut (item .fields .residual)
 
       guarantee-no-less : outcomeValue (guaranteeOutcome table t g) ≤ outcomeValue (guaranteeOutcome table t′ g′)
       unfolding guaranteeOutcome guaranteeGround

@@ -10,6 +10,7 @@ use Rattle.tables.specs.Table.{tableOf}
 use Rattle.tables.specs.Kinds.{repoStyle, securedLending}
 use Rattle.scaling.specs.Period.{holdingPeriod}
 use Rattle.scaling.specs.Scaling.{IsScaled}
+use Rattle.deal.specs.Instruments.{guaranteeInstrument}
 use Rattle.deal.specs.Fields.{termsIn}
 use Rattle.deal.specs.Answers.{answerNumber}
 use Rattle.deal.specs.Records.{dealWith}
@@ -78,6 +79,7 @@ guarantee amount class step currency = record {
   lawful = 1;
   direct = 1;
   «not_in_rating» = 1;
+  instrument = guaranteeInstrument;
 }
 
 -- what is reported of the only item of collateral of a loan of 2,000,000: its value, and its ground or 0

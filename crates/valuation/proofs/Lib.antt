@@ -1,2 +1,3 @@
+pub mod PartialRecognition
 pub mod CombinedHaircut
 pub mod Values

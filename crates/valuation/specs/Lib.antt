@@ -1,3 +1,4 @@
 pub mod Haircuts
 pub mod Protection
+pub mod Restructuring
 pub mod Exposure

@@ -3,3 +3,4 @@
 pub mod exposure;
 pub mod haircuts;
 pub mod protection;
+pub mod restructuring;

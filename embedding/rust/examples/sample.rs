@@ -1,10 +1,10 @@
 //! Answers the sample book of document 01, builds and reports a deal of its own,
-//! and reports one without and with the floor of edition 2, and one by the tables of
-//! 2019 and of 2023.
+//! and reports one without and with the floor of edition 2, one by the tables of
+//! 2019 and of 2023, and one with a swap of each kind.
 
 use hadlephoga::{
-    add_collateral, add_guarantee, answer_book, open, report, Collateral, Guarantee, Outcome,
-    Refusal, Report, Terms, ANSWER_LENGTH,
+    add_collateral, add_guarantee, add_swap, answer_book, open, report, Collateral, Guarantee,
+    Outcome, Refusal, Report, Swap, Terms, ANSWER_LENGTH,
 };
 
 const SAMPLE: &[u8] = b"CRM\t1\n\
@@ -33,6 +33,12 @@ fn main() -> Result<(), Refusal> {
             report.exposure, report.rest, report.weighted_amount
         );
     }
+    let report = swapped()?;
+    let [without, guarantee, with] = [0, 1, 2].map(|place| report.guarantees[place].portion);
+    println!(
+        "swaps {without} and {with}, guarantee {guarantee}, rest {}, weighted amount {}",
+        report.rest, report.weighted_amount
+    );
     Ok(())
 }
 
@@ -183,5 +189,39 @@ fn by_tables(edition: u64) -> Result<Report, Refusal> {
     add_collateral(&mut deal, &bank_debt)?;
     add_collateral(&mut deal, &gold)?;
     add_guarantee(&mut deal, &of_bank)?;
+    report(&deal)
+}
+
+/// The loan with two swaps of 500,000 of banks at step 1 and a sovereign's guarantee
+/// of 200,000 between them. For the first swap restructuring is no credit event: 60%
+/// is 300,000. The second is in dollars, so that 8% go off: 460,000. The guarantee
+/// weighs 0%, the swaps 20%, the rest of 40,000 weighs 100%: 192,000.
+fn swapped() -> Result<Report, Refusal> {
+    let without = Swap {
+        amount: 500_000,
+        class: 2,
+        step: 1,
+        currency: 978,
+        residual_term: 1800,
+        original_term: 1800,
+        lawful: 1,
+        direct: 1,
+        unreflected: 1,
+        ..Swap::default()
+    };
+    let with = Swap {
+        currency: 840,
+        restructuring: 1,
+        ..without
+    };
+    let of_sovereign = Guarantee {
+        class: 1,
+        step: 1,
+        ..of_bank(200_000)
+    };
+    let mut deal = open(&loan())?;
+    add_swap(&mut deal, &without)?;
+    add_guarantee(&mut deal, &of_sovereign)?;
+    add_swap(&mut deal, &with)?;
     report(&deal)
 }

@@ -1,7 +1,9 @@
 //! The calls, and the only unsafe code. Each compares the layouts first.
 
 use crate::layout::compare_once;
-use crate::{Collateral, Guarantee, Record, Refusal, Report, Terms, RECORD_LENGTH, REPORT_LENGTH};
+use crate::{
+    Collateral, Guarantee, Record, Refusal, Report, Swap, Terms, RECORD_LENGTH, REPORT_LENGTH,
+};
 
 /// Bytes of the longest book.
 pub const BOOK_LIMIT: usize = 65_536;
@@ -31,6 +33,12 @@ extern "C" {
         item_length: usize,
     ) -> u64;
     fn hadlephoga_add_guarantee(
+        record: *mut u64,
+        record_length: usize,
+        item: *const u64,
+        item_length: usize,
+    ) -> u64;
+    fn hadlephoga_add_swap(
         record: *mut u64,
         record_length: usize,
         item: *const u64,
@@ -143,6 +151,14 @@ pub fn add_guarantee_numbers(record: &mut [u64], item: &[u64]) -> u64 {
     }
 }
 
+/// [`add_collateral_numbers`] of a swap, in the layout of [`Swap::to_numbers`],
+/// into the list of guarantees.
+pub fn add_swap_numbers(record: &mut [u64], item: &[u64]) -> u64 {
+    compare_once();
+    // SAFETY: as in `open_numbers`, with `record` borrowed alone.
+    unsafe { hadlephoga_add_swap(record.as_mut_ptr(), record.len(), item.as_ptr(), item.len()) }
+}
+
 /// Adds an item of collateral; refused with 40, 6, 1 to 5, 7 or 8, which leaves
 /// the record as it was.
 pub fn add_collateral(record: &mut Record, item: &Collateral) -> Result<(), Refusal> {
@@ -151,10 +167,18 @@ pub fn add_collateral(record: &mut Record, item: &Collateral) -> Result<(), Refu
     added(record, &numbers, refusal)
 }
 
-/// Adds a guarantee; refused as [`add_collateral`] is.
+/// Adds a guarantee; refused as [`add_collateral`] is, with 6 as [`add_swap`] is.
 pub fn add_guarantee(record: &mut Record, item: &Guarantee) -> Result<(), Refusal> {
     let mut numbers = record.to_numbers();
     let refusal = add_guarantee_numbers(&mut numbers, &item.to_numbers());
+    added(record, &numbers, refusal)
+}
+
+/// Adds a swap; refused as [`add_collateral`] is, with 6 where guarantees and
+/// swaps together are sixteen.
+pub fn add_swap(record: &mut Record, item: &Swap) -> Result<(), Refusal> {
+    let mut numbers = record.to_numbers();
+    let refusal = add_swap_numbers(&mut numbers, &item.to_numbers());
     added(record, &numbers, refusal)
 }
 

@@ -8,7 +8,7 @@ use crate::layout;
 /// The layout of numbers that this package is written for: its lengths, its
 /// named fields and its words. The header says what each layout is, and when the
 /// number rises.
-pub const LAYOUT: u64 = 2;
+pub const LAYOUT: u64 = 3;
 
 /// Stops the program at its first call where the library has another layout: it
 /// would take one number for another, which no answer of its own could tell. The
@@ -38,14 +38,14 @@ mod tests {
     }
 
     #[test]
-    #[should_panic = "libhadlephoga.a has layout 1, this package is written for 2"]
+    #[should_panic = "libhadlephoga.a has layout 2, this package is written for 3"]
     fn an_earlier_layout() {
-        compare(1);
+        compare(2);
     }
 
     #[test]
-    #[should_panic = "has layout 3"]
+    #[should_panic = "has layout 4"]
     fn a_later_layout() {
-        compare(3);
+        compare(4);
     }
 }

@@ -1,11 +1,11 @@
 //! Safe calls into the proved calculator of credit-risk relief.
 //!
 //! A book of deals is answered by [`answer_book`], four numbers a deal. One
-//! deal is opened by [`open`], gets its items by [`add_collateral`] and
-//! [`add_guarantee`], and is reported by [`report`], with the value or ground of
-//! every item. All answer every input with figures or a [`Refusal`]; nothing
-//! panics, save the first call in a program that was linked with a library of
-//! another layout of numbers than [`LAYOUT`].
+//! deal is opened by [`open`], gets its items by [`add_collateral`],
+//! [`add_guarantee`] and [`add_swap`], and is reported by [`report`], with the
+//! value or ground of every item. All answer every input with figures or a
+//! [`Refusal`]; nothing panics, save the first call in a program that was linked
+//! with a library of another layout of numbers than [`LAYOUT`].
 //!
 //! ```
 //! let book = b"CRM\t1\nD\t900\t4\t0\t978\t3\t1\t90\t1\t0\t0\n";
@@ -32,6 +32,17 @@
 //! assert_eq!(hadlephoga::answer_book(book, &mut results), Ok(1));
 //! assert_eq!(results, [1, 0, 900, 1350]);
 //! ```
+//!
+//! A bank's swap for which restructuring is no credit event covers 60 percent of
+//! its amount, here 540 at weight 20:
+//!
+//! ```
+//! let book = b"CRM\t1\nD\t900\t4\t0\t978\t3\t1\t90\t1\t0\t0\n\
+//!     S\t900\t2\t1\t978\t90\t90\t1\t1\t1\t0\n";
+//! let mut results = [0; 4];
+//! assert_eq!(hadlephoga::answer_book(book, &mut results), Ok(1));
+//! assert_eq!(results, [1, 0, 900, 378]);
+//! ```
 
 mod calls;
 mod layout;
@@ -41,11 +52,14 @@ mod refusal;
 mod report;
 
 pub use calls::{
-    add_collateral, add_collateral_numbers, add_guarantee, add_guarantee_numbers, answer_book,
-    answer_book_numbers, layout, open, open_numbers, report, report_numbers, BookReply,
-    ANSWER_LENGTH, BOOK_LIMIT,
+    add_collateral, add_collateral_numbers, add_guarantee, add_guarantee_numbers, add_swap,
+    add_swap_numbers, answer_book, answer_book_numbers, layout, open, open_numbers, report,
+    report_numbers, BookReply, ANSWER_LENGTH, BOOK_LIMIT,
 };
 pub use layout::LAYOUT;
-pub use record::{Collateral, Guarantee, Record, Terms, ITEMS, RECORD_LENGTH};
+pub use record::{
+    Collateral, Guarantee, HeldGuarantee, Record, Swap, Terms, GUARANTEE_INSTRUMENT, ITEMS,
+    RECORD_LENGTH, SWAP_WITHOUT_RESTRUCTURING, SWAP_WITH_RESTRUCTURING,
+};
 pub use refusal::Refusal;
 pub use report::{Cover, Ground, Outcome, Report, COVER_WIDTH, OUTCOME_WIDTH, REPORT_LENGTH};

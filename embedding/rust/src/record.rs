@@ -7,7 +7,14 @@ use crate::numbers::{numbers, take};
 pub const ITEMS: usize = 16;
 /// Numbers of a record.
 pub const RECORD_LENGTH: usize =
-    Terms::LENGTH + 1 + ITEMS * Collateral::LENGTH + 1 + ITEMS * Guarantee::LENGTH;
+    Terms::LENGTH + 1 + ITEMS * Collateral::LENGTH + 1 + ITEMS * HeldGuarantee::LENGTH;
+
+/// What a place of the list of guarantees holds: a guarantee.
+pub const GUARANTEE_INSTRUMENT: u64 = 0;
+/// A swap for which restructuring is no credit event.
+pub const SWAP_WITHOUT_RESTRUCTURING: u64 = 1;
+/// A swap for which restructuring is a credit event.
+pub const SWAP_WITH_RESTRUCTURING: u64 = 2;
 
 numbers! {
     /// The terms of a deal.
@@ -61,7 +68,7 @@ numbers! {
 }
 
 numbers! {
-    /// A guarantee.
+    /// A guarantee, as it is sent.
     Guarantee {
         amount,
         /// Of the provider: 1 sovereign, 2 bank or securities firm, 3 other entity.
@@ -79,6 +86,71 @@ numbers! {
     }
 }
 
+numbers! {
+    /// A credit default swap, as it is sent: a guarantee's numbers and one
+    /// condition more. Where that is not met, 60 percent of the smaller of the
+    /// swap's and the deal's amount, rounded down, count for its amount; where it
+    /// is met, the whole does. In all else a swap is a guarantee.
+    Swap {
+        amount,
+        /// Of the provider, as all up to `unreflected` are a guarantee's.
+        class,
+        step,
+        sovereign_step,
+        currency,
+        residual_term,
+        original_term,
+        lawful,
+        direct,
+        unreflected,
+        /// Restructuring is a credit event.
+        restructuring,
+    }
+}
+
+numbers! {
+    /// A guarantee or a swap, as a record holds it.
+    HeldGuarantee {
+        amount,
+        /// Of the provider, as all up to `unreflected` are a guarantee's.
+        class,
+        step,
+        sovereign_step,
+        currency,
+        residual_term,
+        original_term,
+        lawful,
+        direct,
+        unreflected,
+        /// [`GUARANTEE_INSTRUMENT`], [`SWAP_WITHOUT_RESTRUCTURING`] or
+        /// [`SWAP_WITH_RESTRUCTURING`]; any other is refused with 40.
+        instrument,
+    }
+}
+
+impl From<Guarantee> for HeldGuarantee {
+    fn from(item: Guarantee) -> Self {
+        held(&item.to_numbers(), GUARANTEE_INSTRUMENT)
+    }
+}
+
+/// The instrument is one above the entry of the condition. An entry that is
+/// neither 0 nor 1 gives 3, which is no instrument, so that a record with it is
+/// refused, as adding the swap is.
+impl From<Swap> for HeldGuarantee {
+    fn from(item: Swap) -> Self {
+        let [sent @ .., restructuring] = item.to_numbers();
+        let instrument = SWAP_WITHOUT_RESTRUCTURING + restructuring.min(2);
+        held(&sent, instrument)
+    }
+}
+
+fn held(sent: &[u64; Guarantee::LENGTH], instrument: u64) -> HeldGuarantee {
+    let mut numbers = [instrument; HeldGuarantee::LENGTH];
+    numbers[..sent.len()].copy_from_slice(sent);
+    HeldGuarantee::from_numbers(&numbers)
+}
+
 /// A deal with its protection. Places at or past a count are not looked at.
 #[derive(Clone, Debug, Default, PartialEq, Eq)]
 pub struct Record {
@@ -86,14 +158,15 @@ pub struct Record {
     pub collateral_count: u64,
     pub collateral: [Collateral; ITEMS],
     pub guarantee_count: u64,
-    pub guarantees: [Guarantee; ITEMS],
+    /// Guarantees and swaps, in one order of adding.
+    pub guarantees: [HeldGuarantee; ITEMS],
 }
 
 impl Record {
     /// A deal with these items, in order of adding. Of a longer list than
     /// sixteen the first sixteen are held and the count is the whole list's,
     /// which [`report`](crate::report()) refuses with 40.
-    pub fn new(terms: Terms, collateral: &[Collateral], guarantees: &[Guarantee]) -> Self {
+    pub fn new(terms: Terms, collateral: &[Collateral], guarantees: &[HeldGuarantee]) -> Self {
         let mut record = Record {
             terms,
             collateral_count: collateral.len() as u64,
@@ -110,14 +183,14 @@ impl Record {
     }
 
     /// The terms; the count of collateral and sixteen items; the count of
-    /// guarantees and sixteen items.
+    /// guarantees and swaps together and sixteen items.
     pub fn to_numbers(&self) -> [u64; RECORD_LENGTH] {
         let mut numbers = [0; RECORD_LENGTH];
         let values = (self.terms.to_numbers().into_iter())
             .chain([self.collateral_count])
             .chain(self.collateral.iter().flat_map(Collateral::to_numbers))
             .chain([self.guarantee_count])
-            .chain(self.guarantees.iter().flat_map(Guarantee::to_numbers));
+            .chain(self.guarantees.iter().flat_map(HeldGuarantee::to_numbers));
         for (number, value) in numbers.iter_mut().zip(values) {
             *number = value;
         }
@@ -131,7 +204,7 @@ impl Record {
         let [collateral_count] = take(rest);
         let collateral = std::array::from_fn(|_| Collateral::from_numbers(&take(rest)));
         let [guarantee_count] = take(rest);
-        let guarantees = std::array::from_fn(|_| Guarantee::from_numbers(&take(rest)));
+        let guarantees = std::array::from_fn(|_| HeldGuarantee::from_numbers(&take(rest)));
         Record {
             terms,
             collateral_count,

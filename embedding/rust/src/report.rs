@@ -7,7 +7,7 @@ use crate::ITEMS;
 
 /// Numbers that report an item of collateral: its value and its ground.
 pub const OUTCOME_WIDTH: usize = 2;
-/// Numbers that report a guarantee: its portion besides.
+/// Numbers that report a guarantee or a swap: its portion besides.
 pub const COVER_WIDTH: usize = OUTCOME_WIDTH + 1;
 /// Numbers of a report.
 pub const REPORT_LENGTH: usize = 1 + ITEMS * OUTCOME_WIDTH + ITEMS * COVER_WIDTH + 2;
@@ -64,7 +64,7 @@ impl Default for Outcome {
     }
 }
 
-/// What a guarantee is worth, and the portion of E* that it covers.
+/// What a guarantee or a swap is worth, and the portion of E* that it covers.
 #[derive(Clone, Copy, Debug, Default, PartialEq, Eq)]
 pub struct Cover {
     pub outcome: Outcome,
@@ -78,15 +78,16 @@ pub struct Report {
     /// E*, the exposure after collateral.
     pub exposure: u64,
     pub collateral: [Outcome; ITEMS],
+    /// Of guarantees and swaps.
     pub guarantees: [Cover; ITEMS],
-    /// What no guarantee covers of E*.
+    /// What none of them covers of E*.
     pub rest: u64,
     pub weighted_amount: u64,
 }
 
 impl Report {
     /// From E*; sixteen pairs (value, ground) of collateral; sixteen triples
-    /// (value, ground, portion) of guarantees; the rest; the weighted amount.
+    /// (value, ground, portion) of guarantees and swaps; the rest; the weighted amount.
     pub fn from_numbers(numbers: &[u64; REPORT_LENGTH]) -> Self {
         let rest = &mut &numbers[..];
         let [exposure] = take(rest);

@@ -1,10 +1,11 @@
 //! Records built by opening and adding: every refusal by its number, and what a
 //! refused call leaves alone.
 
-use crate::sample::{CASH, GUARANTEE, LOAN};
+use crate::sample::{held, CASH, GUARANTEE, LOAN};
 use hadlephoga::{
-    add_collateral, add_collateral_numbers, add_guarantee, add_guarantee_numbers, open,
-    open_numbers, report, Collateral, Guarantee, Record, Refusal, Terms, ITEMS, RECORD_LENGTH,
+    add_collateral, add_collateral_numbers, add_guarantee, add_guarantee_numbers, add_swap, open,
+    open_numbers, report, Collateral, Guarantee, HeldGuarantee, Record, Refusal, Swap, Terms,
+    ITEMS, RECORD_LENGTH,
 };
 
 const MARK: u64 = 0xA5A5_A5A5_A5A5_A5A5;
@@ -82,8 +83,8 @@ fn full_lists() {
     }
     for count in 1..=ITEMS {
         add_guarantee(&mut record, &GUARANTEE).expect("a free place");
-        let guarantees = &[GUARANTEE; ITEMS][..count];
-        assert_eq!(record, Record::new(LOAN, &[CASH; ITEMS], guarantees));
+        let guarantees = held(&[GUARANTEE; ITEMS][..count]);
+        assert_eq!(record, Record::new(LOAN, &[CASH; ITEMS], &guarantees));
     }
     let full = record.clone();
     // 6 comes before the item's own refusals.
@@ -108,6 +109,7 @@ fn opening_refused() {
     let mut nothing = Record::default();
     assert_eq!(add_collateral(&mut nothing, &CASH), Err(Refusal(40)));
     assert_eq!(add_guarantee(&mut nothing, &GUARANTEE), Err(Refusal(40)));
+    assert_eq!(add_swap(&mut nothing, &Swap::default()), Err(Refusal(40)));
     assert_eq!(report(&nothing), Err(Refusal(40)));
     assert_eq!(nothing, Record::default());
 }
@@ -139,7 +141,7 @@ fn opening_into_lists_of_other_lengths() {
 
 #[test]
 fn adding_refused() {
-    let before = Record::new(LOAN, &[CASH], &[GUARANTEE]);
+    let before = Record::new(LOAN, &[CASH], &held(&[GUARANTEE]));
     let mut record = before.clone();
     for (number, item) in refused_collateral() {
         let refusal = add_collateral(&mut record, &item);
@@ -158,7 +160,7 @@ fn adding_to_no_accepted_record() {
     let mut records = vec![Record::new(LOAN, &[CASH; 17], &[])];
     records.extend(refused_terms().map(|(_, terms)| Record::new(terms, &[], &[])));
     records.extend(refused_collateral().map(|(_, item)| Record::new(LOAN, &[item], &[])));
-    records.extend(refused_guarantees().map(|(_, item)| Record::new(LOAN, &[], &[item])));
+    records.extend(refused_guarantees().map(|(_, item)| Record::new(LOAN, &[], &held(&[item]))));
     let (_, collateral) = refused_collateral()[0];
     let (_, guarantee) = refused_guarantees()[0];
     for before in records {
@@ -173,7 +175,7 @@ type Add = fn(&mut [u64], &[u64]) -> u64;
 
 #[test]
 fn adding_lists_of_other_lengths() {
-    let record = Record::new(LOAN, &[CASH], &[GUARANTEE]).to_numbers();
+    let record = Record::new(LOAN, &[CASH], &held(&[GUARANTEE])).to_numbers();
     let adding: [(Add, &[u64]); 2] = [
         (add_collateral_numbers, &CASH.to_numbers()),
         (add_guarantee_numbers, &GUARANTEE.to_numbers()),
@@ -201,16 +203,16 @@ fn adding_lists_of_other_lengths() {
 /// Only the next place and that list's count change, whatever stands past it.
 #[test]
 fn places_past_a_count_stay() {
-    let mut before = Record::new(LOAN, &[CASH], &[GUARANTEE]);
+    let mut before = Record::new(LOAN, &[CASH], &held(&[GUARANTEE]));
     before.collateral[1..].fill(Collateral::from_numbers(&[MARK; Collateral::LENGTH]));
-    before.guarantees[1..].fill(Guarantee::from_numbers(&[MARK; Guarantee::LENGTH]));
+    before.guarantees[1..].fill(HeldGuarantee::from_numbers(&[MARK; HeldGuarantee::LENGTH]));
     let mut record = before.clone();
     add_collateral(&mut record, &CASH).expect("a free place");
     before.collateral[1] = CASH;
     before.collateral_count = 2;
     assert_eq!(record, before);
     add_guarantee(&mut record, &GUARANTEE).expect("a free place");
-    before.guarantees[1] = GUARANTEE;
+    before.guarantees[1] = GUARANTEE.into();
     before.guarantee_count = 2;
     assert_eq!(record, before);
 }

@@ -2,11 +2,12 @@
 //! fields that hold them and in every place of both lists.
 
 use crate::lines::{collateral_line, guarantee_line, headed, terms_line};
-use crate::sample::{CASH, GUARANTEE, LOAN};
+use crate::sample::{held, CASH, GUARANTEE, LOAN};
 use hadlephoga::{
-    add_collateral, add_collateral_numbers, add_guarantee, add_guarantee_numbers, answer_book,
-    open, open_numbers, report, report_numbers, Collateral, Cover, Guarantee, Outcome, Record,
-    Refusal, Report, Terms, ITEMS, RECORD_LENGTH, REPORT_LENGTH,
+    add_collateral, add_collateral_numbers, add_guarantee, add_guarantee_numbers, add_swap_numbers,
+    answer_book, open, open_numbers, report, report_numbers, Collateral, Cover, Guarantee,
+    HeldGuarantee, Outcome, Record, Refusal, Report, Swap, Terms, ITEMS, RECORD_LENGTH,
+    REPORT_LENGTH,
 };
 
 const LONGEST: u64 = 100_000;
@@ -21,6 +22,8 @@ const ABOVE: [u64; 4] = [LONGEST + 1, (1 << 17) + 1800, (1 << 32) + 1800, u64::M
 const TERMS_DAYS: [usize; 2] = [7, 10];
 const COLLATERAL_DAYS: [usize; 3] = [3, 5, 6];
 const GUARANTEE_DAYS: [usize; 2] = [5, 6];
+/// Numbers of an item in a record, in either list.
+const ITEM_WIDTH: usize = 11;
 const COLLATERAL_START: usize = Terms::LENGTH + 1;
 const GUARANTEE_START: usize = COLLATERAL_START + ITEMS * Collateral::LENGTH + 1;
 
@@ -70,7 +73,7 @@ fn places() -> Vec<usize> {
         (0..ITEMS).flat_map(move |item| days.iter().map(move |at| start + item * width + at))
     };
     let collateral = items(COLLATERAL_START, Collateral::LENGTH, &COLLATERAL_DAYS);
-    let guarantees = items(GUARANTEE_START, Guarantee::LENGTH, &GUARANTEE_DAYS);
+    let guarantees = items(GUARANTEE_START, HeldGuarantee::LENGTH, &GUARANTEE_DAYS);
     let places = TERMS_DAYS.into_iter().chain(collateral).chain(guarantees);
     places.collect()
 }
@@ -81,6 +84,8 @@ fn every_field_has_64_bits() {
     assert_eq!(size_of::<Terms>(), Terms::LENGTH * 8);
     assert_eq!(size_of::<Collateral>(), Collateral::LENGTH * 8);
     assert_eq!(size_of::<Guarantee>(), Guarantee::LENGTH * 8);
+    assert_eq!(size_of::<Swap>(), Swap::LENGTH * 8);
+    assert_eq!(size_of::<HeldGuarantee>(), HeldGuarantee::LENGTH * 8);
     let largest = [u64::MAX; RECORD_LENGTH];
     assert_eq!(Record::from_numbers(&largest).to_numbers(), largest);
 }
@@ -106,7 +111,8 @@ fn longest_everywhere() {
         add_collateral(&mut record, &stock).expect("a free place");
         add_guarantee(&mut record, &promise).expect("a free place");
     }
-    assert_eq!(record, Record::new(terms, &[stock; 16], &[promise; 16]));
+    let promises = held(&[promise; 16]);
+    assert_eq!(record, Record::new(terms, &[stock; 16], &promises));
     let numbers = record.to_numbers();
     let longest = (0..RECORD_LENGTH).filter(|place| numbers[*place] == LONGEST);
     assert_eq!(longest.collect::<Vec<_>>(), places());
@@ -116,7 +122,7 @@ fn longest_everywhere() {
 /// In one field at a time, of a record that is full.
 #[test]
 fn reporting() {
-    let full = Record::new(REPO, &[STOCK; ITEMS], &[PROMISE; ITEMS]).to_numbers();
+    let full = Record::new(REPO, &[STOCK; ITEMS], &held(&[PROMISE; ITEMS])).to_numbers();
     assert_eq!(places().len(), 2 + ITEMS * 3 + ITEMS * 2);
     for place in places() {
         for days in EDGES {
@@ -158,10 +164,12 @@ fn opening() {
 }
 
 /// Adds an item with each of the days in each of these fields, to lists of every
-/// length; the item begins in this place of the record.
+/// length; the item begins in this place of the record, where these numbers of it
+/// are kept.
 fn adding<const WIDTH: usize>(
     add: fn(&mut [u64], &[u64]) -> u64,
     item: [u64; WIDTH],
+    kept: fn(&[u64; WIDTH]) -> [u64; ITEM_WIDTH],
     fields: &[usize],
     before: &Record,
     start: usize,
@@ -172,7 +180,8 @@ fn adding<const WIDTH: usize>(
             let mut record = before.to_numbers();
             item[*field] = days;
             assert_eq!(add(&mut record, &item), 0, "{days} in {field}");
-            assert_eq!(record[start..start + WIDTH], item);
+            let due = kept(&item);
+            assert_eq!(record[start..start + due.len()], due);
         }
         for days in ABOVE {
             let mut record = before.to_numbers();
@@ -186,13 +195,16 @@ fn adding<const WIDTH: usize>(
 #[test]
 fn adding_collateral() {
     for count in 0..ITEMS {
-        let before = Record::new(REPO, &[STOCK; ITEMS][..count], &[PROMISE; ITEMS]);
+        let promises = held(&[PROMISE; ITEMS]);
+        let before = Record::new(REPO, &[STOCK; ITEMS][..count], &promises);
         let start = COLLATERAL_START + count * Collateral::LENGTH;
         let item = STOCK.to_numbers();
+        let days = &COLLATERAL_DAYS;
         adding(
             add_collateral_numbers,
             item,
-            &COLLATERAL_DAYS,
+            |item| *item,
+            days,
             &before,
             start,
         );
@@ -200,12 +212,21 @@ fn adding_collateral() {
 }
 
 #[test]
-fn adding_guarantees() {
+fn adding_guarantees_and_swaps() {
     for count in 0..ITEMS {
-        let before = Record::new(REPO, &[STOCK; ITEMS], &[PROMISE; ITEMS][..count]);
-        let start = GUARANTEE_START + count * Guarantee::LENGTH;
+        let promises = held(&[PROMISE; ITEMS][..count]);
+        let before = Record::new(REPO, &[STOCK; ITEMS], &promises);
+        let start = GUARANTEE_START + count * HeldGuarantee::LENGTH;
+        let days = &GUARANTEE_DAYS;
+        let kept = |item: &_| HeldGuarantee::from(Guarantee::from_numbers(item)).to_numbers();
         let item = PROMISE.to_numbers();
-        adding(add_guarantee_numbers, item, &GUARANTEE_DAYS, &before, start);
+        adding(add_guarantee_numbers, item, kept, days, &before, start);
+        let kept = |item: &_| HeldGuarantee::from(Swap::from_numbers(item)).to_numbers();
+        for restructuring in [0, 1] {
+            let mut item = [restructuring; Swap::LENGTH];
+            item[..Guarantee::LENGTH].copy_from_slice(&PROMISE.to_numbers());
+            adding(add_swap_numbers, item, kept, days, &before, start);
+        }
     }
 }
 

@@ -1,12 +1,12 @@
 //! The figures at the edges of document 01, each taken from the report of a
 //! whole deal.
 
-use crate::sample::{CASH, GUARANTEE, LOAN};
+use crate::sample::{held, CASH, GUARANTEE, LOAN};
 use hadlephoga::Outcome::{LeftOut, Valued};
 use hadlephoga::{report, Collateral, Ground, Guarantee, Outcome, Record, Report, Terms};
 
 fn reported(terms: Terms, collateral: &[Collateral], guarantees: &[Guarantee]) -> Report {
-    report(&Record::new(terms, collateral, guarantees)).expect("an accepted deal")
+    report(&Record::new(terms, collateral, &held(guarantees))).expect("an accepted deal")
 }
 
 /// What one item of collateral of a loan with this kind and interval is worth.

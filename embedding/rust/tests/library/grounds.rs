@@ -1,7 +1,7 @@
 //! Each ground on an item of its own, and the words of refusals and grounds. All
 //! other conditions are met, so that two that are exchanged show.
 
-use crate::sample::{CASH, GUARANTEE, LOAN};
+use crate::sample::{held, CASH, GUARANTEE, LOAN};
 use hadlephoga::{report, Collateral, Ground, Guarantee, Outcome, Record, Refusal};
 
 /// Senior paper of a bank, listed; valued.
@@ -19,7 +19,7 @@ fn of_collateral(item: Collateral) -> Outcome {
 }
 
 fn of_guarantee(item: Guarantee) -> Outcome {
-    let report = report(&Record::new(LOAN, &[], &[item])).expect("an accepted deal");
+    let report = report(&Record::new(LOAN, &[], &held(&[item]))).expect("an accepted deal");
     report.guarantees[0].outcome
 }
 

@@ -1,6 +1,6 @@
 //! Deals and items as lines of a book, under each header.
 
-use hadlephoga::{Collateral, Guarantee, Terms};
+use hadlephoga::{Collateral, Guarantee, Swap, Terms};
 
 /// Where the sovereign's step stands, which lines leave out under header 1.
 const SOVEREIGN_STEP: usize = 3;
@@ -30,6 +30,10 @@ pub fn collateral_line(item: &Collateral) -> String {
 
 pub fn guarantee_line(edition: u64, item: &Guarantee) -> String {
     line('G', &sent(edition, &item.to_numbers()))
+}
+
+pub fn swap_line(edition: u64, item: &Swap) -> String {
+    line('S', &sent(edition, &item.to_numbers()))
 }
 
 pub fn headed(edition: u64, lines: &[String]) -> Vec<u8> {

@@ -11,5 +11,6 @@ mod lines;
 mod records;
 mod sample;
 mod sovereigns;
+mod swaps;
 mod tables_2023;
 mod threads;

@@ -1,16 +1,16 @@
 //! Records of any numbers, and record and report lists of any length.
 
-use crate::sample::{CASH, GUARANTEE, LOAN};
+use crate::sample::{held, CASH, GUARANTEE, LOAN};
 use hadlephoga::Outcome::{LeftOut, Valued};
 use hadlephoga::{
-    report, report_numbers, Collateral, Cover, Ground, Guarantee, Record, Refusal, Report, Terms,
-    ITEMS, RECORD_LENGTH, REPORT_LENGTH,
+    report, report_numbers, Collateral, Cover, Ground, Guarantee, HeldGuarantee, Record, Refusal,
+    Report, Swap, Terms, ITEMS, RECORD_LENGTH, REPORT_LENGTH,
 };
 
 const MARK: u64 = 0xA5A5_A5A5_A5A5_A5A5;
 
 fn record() -> Record {
-    Record::new(LOAN, &[CASH], &[GUARANTEE])
+    Record::new(LOAN, &[CASH], &held(&[GUARANTEE]))
 }
 
 fn is_refused(record: &Record) -> bool {
@@ -19,7 +19,7 @@ fn is_refused(record: &Record) -> bool {
 
 #[test]
 fn layout_of_terms_and_counts() {
-    assert_eq!(RECORD_LENGTH, 350);
+    assert_eq!(RECORD_LENGTH, 366);
     assert_eq!(REPORT_LENGTH, 83);
     let numbers = std::array::from_fn(|place| place as u64 + 1);
     let record = Record::from_numbers(&numbers);
@@ -62,7 +62,7 @@ fn layout_of_items() {
     };
     assert_eq!(record.collateral[0], item(14));
     assert_eq!(record.collateral[15], item(179));
-    let item = |first| Guarantee {
+    let item = |first| HeldGuarantee {
         amount: first,
         class: first + 1,
         step: first + 2,
@@ -73,9 +73,44 @@ fn layout_of_items() {
         lawful: first + 7,
         direct: first + 8,
         unreflected: first + 9,
+        instrument: first + 10,
     };
     assert_eq!(record.guarantees[0], item(191));
-    assert_eq!(record.guarantees[15], item(341));
+    assert_eq!(record.guarantees[15], item(356));
+}
+
+/// A guarantee and a swap have their ten numbers in the same places.
+#[test]
+fn layout_of_sent_items() {
+    let guarantee = Guarantee {
+        amount: 1,
+        class: 2,
+        step: 3,
+        sovereign_step: 4,
+        currency: 5,
+        residual_term: 6,
+        original_term: 7,
+        lawful: 8,
+        direct: 9,
+        unreflected: 10,
+    };
+    let swap = Swap {
+        amount: 1,
+        class: 2,
+        step: 3,
+        sovereign_step: 4,
+        currency: 5,
+        residual_term: 6,
+        original_term: 7,
+        lawful: 8,
+        direct: 9,
+        unreflected: 10,
+        restructuring: 11,
+    };
+    let sent = [1, 2, 3, 4, 5, 6, 7, 8, 9, 10, 11];
+    assert_eq!(guarantee.to_numbers(), sent[..10]);
+    assert_eq!(swap.to_numbers(), sent);
+    assert_eq!(Swap::from_numbers(&sent), swap);
 }
 
 #[test]
@@ -139,7 +174,7 @@ fn counts() {
     for count in [17, 18, 20, 255, 256, 1 << 32, u64::MAX - 1, u64::MAX] {
         let mut record = record();
         record.collateral = [CASH; ITEMS];
-        record.guarantees = [GUARANTEE; ITEMS];
+        record.guarantees = [GUARANTEE.into(); ITEMS];
         record.collateral_count = count;
         assert!(is_refused(&record));
         record.collateral_count = 16;
@@ -148,8 +183,9 @@ fn counts() {
         assert!(is_refused(&record));
     }
     assert!(is_refused(&Record::new(LOAN, &[CASH; 17], &[])));
-    assert!(is_refused(&Record::new(LOAN, &[], &[GUARANTEE; 17])));
-    assert!(report(&Record::new(LOAN, &[CASH; 16], &[GUARANTEE; 16])).is_ok());
+    let guarantees = held(&[GUARANTEE; 17]);
+    assert!(is_refused(&Record::new(LOAN, &[], &guarantees)));
+    assert!(report(&Record::new(LOAN, &[CASH; 16], &guarantees[..16])).is_ok());
 }
 
 #[test]
@@ -162,7 +198,7 @@ fn largest_numbers_everywhere() {
 
 #[test]
 fn largest_number_in_each_field() {
-    let full = Record::new(LOAN, &[CASH; ITEMS], &[GUARANTEE; ITEMS]).to_numbers();
+    let full = Record::new(LOAN, &[CASH; ITEMS], &held(&[GUARANTEE; ITEMS])).to_numbers();
     for place in 0..RECORD_LENGTH {
         let mut numbers = full;
         numbers[place] = u64::MAX;
@@ -177,7 +213,9 @@ fn places_past_a_count_do_not_matter() {
     let clean = record();
     let mut record = record();
     record.collateral[1..].fill(Collateral::from_numbers(&[u64::MAX; Collateral::LENGTH]));
-    record.guarantees[1..].fill(Guarantee::from_numbers(&[u64::MAX; Guarantee::LENGTH]));
+    record.guarantees[1..].fill(HeldGuarantee::from_numbers(
+        &[u64::MAX; HeldGuarantee::LENGTH],
+    ));
     assert_eq!(report(&record), report(&clean));
     assert!(report(&clean).is_ok());
 }
@@ -235,10 +273,10 @@ fn items_just_outside_their_ranges() {
         let item = Collateral::from_numbers(&item);
         assert!(is_refused(&Record::new(LOAN, &[item], &[])), "{item:?}");
     }
-    for (place, number) in [(1, 4), (3, 1), (6, 1799), (8, 2)] {
-        let mut item = GUARANTEE.to_numbers();
+    for (place, number) in [(1, 4), (3, 1), (6, 1799), (8, 2), (10, 3)] {
+        let mut item = HeldGuarantee::from(GUARANTEE).to_numbers();
         item[place] = number;
-        let item = Guarantee::from_numbers(&item);
+        let item = HeldGuarantee::from_numbers(&item);
         assert!(is_refused(&Record::new(LOAN, &[], &[item])), "{item:?}");
     }
 }

@@ -1,7 +1,7 @@
 //! The sample book of document 01, and plain deals and items that a test
 //! changes in a field or two.
 
-use hadlephoga::{Collateral, Guarantee, Terms};
+use hadlephoga::{Collateral, Guarantee, HeldGuarantee, Terms};
 
 pub const SAMPLE: &[u8] = b"CRM\t1\n\
     D\t1000000\t3\t0\t978\t3\t1\t1800\t1\t0\t0\n\
@@ -56,3 +56,8 @@ pub const GUARANTEE: Guarantee = Guarantee {
     direct: 1,
     unreflected: 1,
 };
+
+/// These items as a record holds them.
+pub fn held<Item: Copy + Into<HeldGuarantee>>(items: &[Item]) -> Vec<HeldGuarantee> {
+    items.iter().map(|item| (*item).into()).collect()
+}

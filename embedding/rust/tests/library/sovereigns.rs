@@ -2,7 +2,7 @@
 //! editions and sovereign's steps. Weights are those of the papers' tables.
 
 use crate::lines::{guarantee_line, headed, terms_line};
-use crate::sample::{CASH, GUARANTEE, LOAN};
+use crate::sample::{held, CASH, GUARANTEE, LOAN};
 use hadlephoga::Outcome::{LeftOut, Valued};
 use hadlephoga::{
     add_collateral, add_guarantee, answer_book, open, report, Ground, Guarantee, Outcome, Record,
@@ -18,7 +18,7 @@ const RATED: [[u64; 6]; 2] = [[20, 50, 50, 100, 100, 150], [20, 50, 100, 100, 15
 const UNKNOWN: [u64; 8] = [0, 4, 5, 256, 257, 259, (1 << 32) + 3, u64::MAX];
 
 fn reported(terms: Terms, guarantees: &[Guarantee]) -> Report {
-    report(&Record::new(terms, &[], guarantees)).expect("an accepted deal")
+    report(&Record::new(terms, &[], &held(guarantees))).expect("an accepted deal")
 }
 
 /// A loan of 100 to a party, whose weight is then the weighted amount.
@@ -173,7 +173,7 @@ fn unknown_editions_are_refused() {
         assert_eq!(open(&Terms { step: 7, ..terms }), Err(Refusal(2)));
         let amount = 1_000_000_000_001;
         assert_eq!(open(&Terms { amount, ..terms }), Err(Refusal(1)));
-        let before = Record::new(terms, &[CASH], &[GUARANTEE]);
+        let before = Record::new(terms, &[CASH], &held(&[GUARANTEE]));
         let mut record = before.clone();
         assert_eq!(report(&record), Err(Refusal(40)));
         assert_eq!(add_collateral(&mut record, &CASH), Err(Refusal(40)));

@@ -2,7 +2,7 @@
 //! and all else as under edition 2.
 
 use crate::lines::{collateral_line, guarantee_line, headed, terms_line};
-use crate::sample::{CASH, GUARANTEE, LOAN};
+use crate::sample::{held, CASH, GUARANTEE, LOAN};
 use hadlephoga::Outcome::{LeftOut, Valued};
 use hadlephoga::{answer_book, report, Collateral, Ground, Guarantee, Record, Report, Terms};
 
@@ -16,7 +16,7 @@ fn terms(edition: u64) -> Terms {
 }
 
 fn reported(terms: Terms, collateral: &[Collateral], guarantees: &[Guarantee]) -> Report {
-    report(&Record::new(terms, collateral, guarantees)).expect("an accepted deal")
+    report(&Record::new(terms, collateral, &held(guarantees))).expect("an accepted deal")
 }
 
 fn pledge(goods: u64, step: u64, issue_life: u64) -> Collateral {

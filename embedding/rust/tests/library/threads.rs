@@ -2,7 +2,7 @@
 
 use std::thread;
 
-use crate::sample::{CASH, GUARANTEE, LOAN, SAMPLE, SAMPLE_RESULTS};
+use crate::sample::{held, CASH, GUARANTEE, LOAN, SAMPLE, SAMPLE_RESULTS};
 use hadlephoga::{answer_book, report, Record, Terms};
 
 #[test]
@@ -11,7 +11,8 @@ fn side_by_side() {
         for number in 0..8 {
             scope.spawn(move || {
                 let amount = 1_000_000 + number;
-                let record = Record::new(Terms { amount, ..LOAN }, &[CASH; 16], &[GUARANTEE; 16]);
+                let guarantees = held(&[GUARANTEE; 16]);
+                let record = Record::new(Terms { amount, ..LOAN }, &[CASH; 16], &guarantees);
                 let alone = report(&record);
                 for _ in 0..500 {
                     let mut results = [number; 13];

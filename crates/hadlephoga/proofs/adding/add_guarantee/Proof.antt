@@ -1,5 +1,5 @@
 -- `hadlephoga::adding::add_guarantee` meets its contract: 11 and 40 by the lengths, then what adding answers. Assumes nothing.
-use mathlib.Core.Path.{_≡_, sym, _∙_}
+use mathlib.Core.Path.{sym, _∙_}
 use borrow.Author.Tests.{ne-eqb}
 use Rattle.base.proofs.Tests.{tests}
 use Rattle.deal.specs.Answers.{answerNumber}
@@ -27,8 +27,8 @@ returns-2 c =
 deal-in-requires : tie.Need-deal-in-requires
 deal-in-requires c κs = search tests
 
-guarantee-in-requires : tie.Need-guarantee-in-requires
-guarantee-in-requires c κs = search tests
+guarantee-sent-requires : tie.Need-guarantee-sent-requires
+guarantee-sent-requires c κs = search tests
 
 add-guarantee-requires : tie.Need-add-guarantee-requires
 add-guarantee-requires c κs = tt
@@ -48,7 +48,7 @@ returns-3 c =
     let d = i .before in
     let else = d .before .before in
     let own = adding-by-deal _ _ _ _ (else .before .if1 .left) (else .if2 .left) in
-    let added = rw (d .deal-in .ensures, i .guarantee-in .ensures) at (a .add-guarantee .ensures) in
+    let added = rw (d .deal-in .ensures, i .guarantee-sent .ensures) at (a .add-guarantee .ensures) in
     (p .put-reply .ensures .0 ∙ added .0 ∙ sym own, rw (added .0 ∙ sym own, added .1) at (p .put-reply .ensures .1))
 
 pub add-guarantee-spec : {M : Type 1} → statement M
@@ -59,7 +59,7 @@ add-guarantee-spec =
     number-requires
     returns-2
     deal-in-requires
-    guarantee-in-requires
+    guarantee-sent-requires
     add-guarantee-requires
     put-reply-requires
     same-length

@@ -5,7 +5,7 @@ use lib.ListN.{length}
 use borrow.Author.Tests.{not-true, not-false}
 use Rattle.base.proofs.Choice.{if-true, if-false}
 use Rattle.base.proofs.Tests.{tests}
-use Rattle.deal.specs.Fields.{guaranteeIn}
+use Rattle.deal.specs.Fields.{guaranteeSent}
 use Rattle.lines.specs.Fields.{mostFields}
 use Rattle.lines.specs.Lines.{guaranteeLine, ifHeld}
 use Rattle.lines.specs.Sovereign.{withSovereign}
@@ -21,11 +21,11 @@ returns c = sym (if-false _ _ _ (not-true _ (c .if1 .taken)))
 with-sovereign-requires : tie.Need-with-sovereign-requires
 with-sovereign-requires c κs = tt
 
-slice-aggregate-guarantee-in : tie.Need-slice-aggregate-guarantee-in
-slice-aggregate-guarantee-in c = search tests
+slice-aggregate-guarantee-sent : tie.Need-slice-aggregate-guarantee-sent
+slice-aggregate-guarantee-sent c = search tests
 
-guarantee-in-requires : tie.Need-guarantee-in-requires
-guarantee-in-requires c κs =
+guarantee-sent-requires : tie.Need-guarantee-sent-requires
+guarantee-sent-requires c κs =
     let e : length (c .before .with-sovereign .result) ≡ mostFields = search tests in
     omega (arith, e)
 
@@ -34,7 +34,7 @@ unfolding ifHeld guaranteeLine
 returns-2 c =
     let w = c .before .before in
     let s = w .before .before .before .before in
-    ap GuaranteeLine (c .guarantee-in .ensures ∙ ap (λ fields. guaranteeIn fields) (w .with-sovereign .ensures) ∙ whole-guarantee (withSovereign (s .args .edition) (s .args .fields .values))) ∙ sym (if-true _ _ _ (not-false _ (w .before .before .if1 .left)))
+    ap GuaranteeLine (c .guarantee-sent .ensures ∙ ap (λ fields. guaranteeSent fields) (w .with-sovereign .ensures) ∙ whole-guarantee (withSovereign (s .args .edition) (s .args .fields .values))) ∙ sym (if-true _ _ _ (not-false _ (w .before .before .if1 .left)))
 
 pub guarantee-line-spec : {M : Type 1} → statement M
-guarantee-line-spec = tie.close (tie.spec returns with-sovereign-requires slice-aggregate-guarantee-in guarantee-in-requires returns-2)
+guarantee-line-spec = tie.close (tie.spec returns with-sovereign-requires slice-aggregate-guarantee-sent guarantee-sent-requires returns-2)

@@ -8,10 +8,10 @@ use lib.ListN.{length, drop, getD}
 use Rattle.base.specs.Choice.{if_then_else_}
 use Rattle.lines.specs.Fields.{fieldsOf}
 use Rattle.lines.specs.Sovereign.{widthUnder}
-use Rattle.lines.specs.Lines.{dealLine, collateralLine, guaranteeLine, ifRead, lineOf}
+use Rattle.lines.specs.Lines.{dealLine, collateralLine, guaranteeLine, swapLine, ifRead, lineOf}
 use Rattle.lines.specs.declared.line.Line.the-variants.{Malformed}
 use Rattle.text.proofs.Lines.{rest-part}
-use Rattle.lines.proofs.LineLaws.{deal-held, collateral-held, guarantee-held}
+use Rattle.lines.proofs.LineLaws.{deal-held, collateral-held, guarantee-held, swap-held}
 use Rattle.lines.proofs.SovereignLaws.{width-le}
 use Rattle.lines.proofs.line.read_line.Statement.{statement}
 use Rattle.lines.proofs.line.read_line.Tie as tie
@@ -38,10 +38,15 @@ module _ (edition : ℕ) where
   guarantee [] h e = absurd (omega arith)
   guarantee (b ∷ bs) h e = rw e
 
-  other : (line : List ℕ) → (getD line 0 0 ≡ 68 → ⊥) → (getD line 0 0 ≡ 67 → ⊥) → (getD line 0 0 ≡ 71 → ⊥) → lineOf edition line ≡ Malformed
+  swap : (line : List ℕ) → 0 < length line → getD line 0 0 ≡ 83 → lineOf edition line ≡ ifRead (swapLine edition) (fieldsOf (widthUnder edition 11) (drop 1 line))
   unfolding lineOf if_then_else_
-  other [] d c g = refl
-  other (b ∷ bs) d c g = simp (ne-eqb b 68 d, ne-eqb b 67 c, ne-eqb b 71 g)
+  swap [] h e = absurd (omega arith)
+  swap (b ∷ bs) h e = rw e
+
+  other : (line : List ℕ) → (getD line 0 0 ≡ 68 → ⊥) → (getD line 0 0 ≡ 67 → ⊥) → (getD line 0 0 ≡ 71 → ⊥) → (getD line 0 0 ≡ 83 → ⊥) → lineOf edition line ≡ Malformed
+  unfolding lineOf if_then_else_
+  other [] d c g s = refl
+  other (b ∷ bs) d c g s = simp (ne-eqb b 68 d, ne-eqb b 67 c, ne-eqb b 71 g, ne-eqb b 83 s)
 
 returns : tie.Need-returns
 returns c = sym (empty _ _ (omega (arith, c .if1 .taken)))
@@ -100,6 +105,12 @@ read-fields-requires-3 c κs = omega (arith, c .before .width-under2 .ensures, w
 guarantee-line-requires : tie.Need-guarantee-line-requires
 guarantee-line-requires c κs = tt
 
+width-under-requires-3 : tie.Need-width-under-requires-3
+width-under-requires-3 c κs = omega arith
+
+read-fields-requires-4 : tie.Need-read-fields-requires-4
+read-fields-requires-4 c κs = omega (arith, c .before .width-under3 .ensures, width-le (c .before .before .before .before .before .before .args .edition) 11)
+
 returns-2 : tie.Need-returns-2
 returns-2 c =
     let w = c .before .before .before in
@@ -120,8 +131,14 @@ returns-4 c =
 
 returns-5 : tie.Need-returns-5
 returns-5 c =
+    let w = c .before .before .before in
+    let e = rw rest-part at (c .before .read-fields4 .ensures) in
+    rw (c .swap-line .ensures, e, w .width-under3 .ensures, swap-held) (sym (swap _ _ (omega arith) (omega (arith, w .before .match .keys4))))
+
+returns-6 : tie.Need-returns-6
+returns-6 c =
     let r = c .match .rest in
-    sym (other _ _ (r .0 .0 .1) (r .0 .1) (r .1))
+    sym (other _ _ (r .0 .0 .0 .1) (r .0 .0 .1) (r .0 .1) (r .1))
 
 pub read-line-spec : {M : Type 1} → statement M
 read-line-spec =
@@ -146,7 +163,14 @@ read-line-spec =
     part-read-fields-end-3
     read-fields-requires-3
     guarantee-line-requires
+    width-under-requires-3
+    (λ c. omega arith)
+    (λ c. omega arith)
+    (λ c. omega arith)
+    read-fields-requires-4
+    (λ c κs. tt)
     returns-2
     returns-3
     returns-4
-    returns-5)
+    returns-5
+    returns-6)

@@ -15,6 +15,7 @@ use Rattle.relief.specs.Grounds.{groundWith}
 use Rattle.relief.specs.Outcomes.{outcomeFor}
 use Rattle.relief.specs.Weights.{counterpartyWeightOf, providerWeightOf}
 use Rattle.relief.specs.Guarantees.{guaranteeValue, guaranteeGrounds, guaranteeGround, guaranteeOutcome}
+use Rattle.relief.proofs.Hedged.{hedged-le}
 use Rattle.relief.proofs.guarantee.outcome_after_haircut.Statement.{statement}
 use Rattle.relief.proofs.guarantee.outcome_after_haircut.Tie as tie
 
@@ -36,8 +37,13 @@ short-original-requires c κs = tt
 short-residual-requires : tie.Need-short-residual-requires
 short-residual-requires c κs = tt
 
+hedged-amount-requires : tie.Need-hedged-amount-requires
+hedged-amount-requires c κs = search tests
+
 recognised-requires : tie.Need-recognised-requires
-recognised-requires c κs = search tests
+recognised-requires c κs =
+    let s = c .before .before .before .before .before .before .before .before .before .before .before .before .before .before in
+    omega (arith, c .hedged-amount .ensures, hedged-le (s .args .terms) (s .args .item), s .pre .0 .0)
 
 returns : tie.Need-returns
 unfolding guaranteeGround guaranteeGrounds outcomeFor groundWith if_then_else_
@@ -105,8 +111,9 @@ past-7 c =
 returns-8 : tie.Need-returns-8
 unfolding guaranteeGround guaranteeGrounds guaranteeValue firstOr outcomeFor groundWith if_then_else_
 returns-8 c =
-    let s = c .before .before .before .before .before .before .before .before .before .before .before .before .before .before in
-    rw (c .recognised .ensures, s .pre .0 .1) (decided _ _ (past-7 (c .before)))
+    let h = c .before in
+    let s = h .before .before .before .before .before .before .before .before .before .before .before .before .before .before in
+    rw (c .recognised .ensures, h .hedged-amount .ensures, s .pre .0 .1) (decided _ _ (past-7 (h .before)))
 
 pub outcome-after-haircut-spec : {M : Type 1} → statement M
 outcome-after-haircut-spec =
@@ -122,5 +129,6 @@ outcome-after-haircut-spec =
     short-residual-requires
     returns-6
     returns-7
+    hedged-amount-requires
     recognised-requires
     returns-8)
