@@ -1,8 +1,8 @@
 //! Opening a deal, adding to it, and the test of a whole record
-//! (01: The four operations; 02: L5, L9, L11).
+//! (01: The four operations; 02: L1, L5, L9, L11).
 
 use crate::record::{
-    place, Collateral, Guarantee, Record, Terms, AMOUNT_LIMIT, DAYS_LIMIT, LIST_LIMIT,
+    place, Collateral, Cover, Guarantee, Record, Swap, Terms, AMOUNT_LIMIT, DAYS_LIMIT, LIST_LIMIT,
 };
 use crate::{edition, refusal, tables};
 
@@ -24,10 +24,20 @@ pub fn add_collateral(record: &mut Record, item: Collateral) -> u64 {
 /// Adds a guarantee and gives 0, or gives the refusal and leaves the record as
 /// it was.
 pub fn add_guarantee(record: &mut Record, item: Guarantee) -> u64 {
+    add_cover(record, item.into())
+}
+
+/// Adds a swap to the list of guarantees and gives 0, or gives the refusal and
+/// leaves the record as it was.
+pub fn add_swap(record: &mut Record, item: Swap) -> u64 {
+    add_cover(record, item.into())
+}
+
+fn add_cover(record: &mut Record, item: Cover) -> u64 {
     if !is_accepted(record) {
         return refusal::RECORD;
     }
-    number(push_guarantee(record, item))
+    number(push_cover(record, item))
 }
 
 /// Adding without the test for 40, for a record that is known to be accepted.
@@ -41,10 +51,10 @@ pub(crate) fn push_collateral(record: &mut Record, item: Collateral) -> Result<(
 }
 
 /// Adding without the test for 40, for a record that is known to be accepted.
-pub(crate) fn push_guarantee(record: &mut Record, item: Guarantee) -> Result<(), u64> {
+pub(crate) fn push_cover(record: &mut Record, item: Cover) -> Result<(), u64> {
     let next = record.guarantees.get_mut(place(record.guarantee_count));
     let next = next.ok_or(refusal::FULL)?;
-    check_guarantee(&item)?;
+    check_cover(&item)?;
     *next = item;
     record.guarantee_count += 1;
     Ok(())
@@ -57,7 +67,7 @@ pub(crate) fn is_accepted(record: &Record) -> bool {
         let mut collateral = record.counted_collateral().iter();
         let mut guarantees = record.counted_guarantees().iter();
         collateral.all(|item| check_collateral(item).is_ok())
-            && guarantees.all(|item| check_guarantee(item).is_ok())
+            && guarantees.all(|item| check_cover(item).is_ok())
     };
     record.collateral_count <= limit
         && record.guarantee_count <= limit
@@ -87,8 +97,21 @@ fn check_collateral(item: &Collateral) -> Result<(), u64> {
     check_goods_step(item.goods, item.step)?;
     check_currency(item.currency)?;
     check_issue_life(item.goods, item.life)?;
-    check_cover(item.residual, item.original)?;
+    check_maturity(item.residual, item.original)?;
     check_conditions([item.lawful, item.unrelated, item.unreflected, item.listed])
+}
+
+fn check_cover(item: &Cover) -> Result<(), u64> {
+    match item {
+        Cover::Guarantee(item) => check_guarantee(item),
+        Cover::Swap(item) => check_swap(item),
+    }
+}
+
+/// The restructuring condition comes last: it is one of those that 8 tests.
+fn check_swap(item: &Swap) -> Result<(), u64> {
+    check_guarantee(&item.guarantee)?;
+    check_conditions([item.restructuring])
 }
 
 fn check_guarantee(item: &Guarantee) -> Result<(), u64> {
@@ -97,7 +120,7 @@ fn check_guarantee(item: &Guarantee) -> Result<(), u64> {
     ensure(is_step(item.step, false), refusal::STEP)?;
     check_sovereign_step(item.class, item.sovereign_step)?;
     check_currency(item.currency)?;
-    check_cover(item.residual, item.original)?;
+    check_maturity(item.residual, item.original)?;
     check_conditions([item.lawful, item.direct, item.unreflected])
 }
 
@@ -125,8 +148,9 @@ fn check_issue_life(goods: u64, life: u64) -> Result<(), u64> {
     ensure(fits, refusal::DAYS)
 }
 
-/// The terms of a pledge or guarantee: both in range, then one against the other.
-fn check_cover(residual: u64, original: u64) -> Result<(), u64> {
+/// The terms of a pledge, guarantee or swap: both in range, then one against the
+/// other.
+fn check_maturity(residual: u64, original: u64) -> Result<(), u64> {
     ensure(is_term(residual) && is_term(original), refusal::DAYS)?;
     ensure(residual <= original, refusal::RESIDUAL)
 }

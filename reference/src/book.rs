@@ -1,16 +1,16 @@
-//! Reading a book (01: The book; 02: L5, L9): its lines, the fields of a line, and
-//! the deals that the lines make up.
+//! Reading a book (01: The book; 02: L1, L5, L9): its lines, the fields of a line,
+//! and the deals that the lines make up.
 
 use std::iter::Peekable;
 
-use crate::acceptance::{open, push_collateral, push_guarantee};
-use crate::record::{Collateral, Guarantee, Record, Terms};
+use crate::acceptance::{open, push_collateral, push_cover};
+use crate::record::{Collateral, Cover, Guarantee, Record, Swap, Terms};
 use crate::{edition, refusal};
 
 const LONGEST: usize = 65_536;
 const DEAL_START: &[u8] = b"D\t";
 const MOST_DIGITS: usize = 13;
-/// Place of the sovereign's step among the numbers of a D or G line: right
+/// Place of the sovereign's step among the numbers of a D, G or S line: right
 /// behind the step.
 const SOVEREIGN_STEP: usize = 3;
 
@@ -90,7 +90,7 @@ fn open_by(line: &[u8], edition: u64) -> Result<Record, u64> {
 fn add_by(line: &[u8], record: &mut Record) -> Result<(), u64> {
     match read(line, record.terms.edition) {
         Some(Entry::Collateral(item)) => push_collateral(record, item),
-        Some(Entry::Guarantee(item)) => push_guarantee(record, item),
+        Some(Entry::Cover(item)) => push_cover(record, item),
         _ => Err(refusal::LINE),
     }
 }
@@ -108,7 +108,7 @@ fn opens_deal(line: &[u8]) -> bool {
 enum Entry {
     Deal(Terms),
     Collateral(Collateral),
-    Guarantee(Guarantee),
+    Cover(Cover),
 }
 
 /// Reads a whole line of a book of the edition; none where refusal 11 falls on
@@ -119,7 +119,10 @@ fn read(line: &[u8], edition: u64) -> Option<Entry> {
     match pieces.next()? {
         b"D" => Some(Entry::Deal(terms(numbers(pieces, unsent)?, edition))),
         b"C" => Some(Entry::Collateral(numbers(pieces, None)?.into())),
-        b"G" => Some(Entry::Guarantee(numbers(pieces, unsent)?.into())),
+        b"G" => Some(Entry::Cover(
+            Guarantee::from(numbers(pieces, unsent)?).into(),
+        )),
+        b"S" => Some(Entry::Cover(Swap::from(numbers(pieces, unsent)?).into())),
         _ => None,
     }
 }
@@ -200,7 +203,11 @@ mod tests {
         ));
         assert!(matches!(
             read(b"G\t1\t1\t1\t978\t90\t90\t1\t1\t1\n", 1),
-            Some(Entry::Guarantee(_))
+            Some(Entry::Cover(Cover::Guarantee(_)))
+        ));
+        assert!(matches!(
+            read(b"S\t1\t1\t1\t978\t90\t90\t1\t1\t1\t0\n", 1),
+            Some(Entry::Cover(Cover::Swap(_)))
         ));
         for bad in [
             &b""[..],
@@ -215,6 +222,10 @@ mod tests {
             b"D\t\t1\t3\t0\t978\t3\t1\t90\t1\t0\t0\n",
             b"d\t1\t3\t0\t978\t3\t1\t90\t1\t0\t0\n",
             b"CC\t1\t1\t0\t0\t978\t90\t90\t1\t1\t1\t0\n",
+            b"s\t1\t1\t1\t978\t90\t90\t1\t1\t1\t0\n",
+            b"SS\t1\t1\t1\t978\t90\t90\t1\t1\t1\t0\n",
+            b"S\t1\t1\t1\t978\t90\t90\t1\t1\t1\n",
+            b"S\t1\t1\t1\t978\t90\t90\t1\t1\t1\t0",
             b"X\t1\n",
         ] {
             assert!(read(bad, 1).is_none(), "{bad:?}");
@@ -233,12 +244,15 @@ mod tests {
             (1, "D", 11),
             (1, "C", 12),
             (1, "G", 10),
+            (1, "S", 11),
             (2, "D", 12),
             (2, "C", 12),
             (2, "G", 11),
+            (2, "S", 12),
             (3, "D", 12),
             (3, "C", 12),
             (3, "G", 11),
+            (3, "S", 12),
         ] {
             for fields in 1..=15 {
                 let reads = read(&line_of(letter, fields), edition).is_some();
@@ -255,10 +269,13 @@ mod tests {
         }
     }
 
-    /// Step, sovereign's step and currency of a G line.
-    fn read_guarantee(line: &[u8], edition: u64) -> Option<[u64; 3]> {
+    /// Step, sovereign's step and currency of a G or S line.
+    fn read_cover(line: &[u8], edition: u64) -> Option<[u64; 3]> {
         match read(line, edition)? {
-            Entry::Guarantee(g) => Some([g.step, g.sovereign_step, g.currency]),
+            Entry::Cover(item) => {
+                let sent = item.guarantee();
+                Some([sent.step, sent.sovereign_step, sent.currency])
+            }
             _ => None,
         }
     }
@@ -271,10 +288,15 @@ mod tests {
         assert_eq!(read_deal(deal, 2), Some([4, 5, 978, 2]));
         assert_eq!(read_deal(deal, 3), Some([4, 5, 978, 3]));
         let guarantee = b"G\t1\t2\t4\t978\t90\t90\t1\t1\t1\n";
-        assert_eq!(read_guarantee(guarantee, 1), Some([4, 0, 978]));
+        assert_eq!(read_cover(guarantee, 1), Some([4, 0, 978]));
         let guarantee = b"G\t1\t2\t4\t5\t978\t90\t90\t1\t1\t1\n";
-        assert_eq!(read_guarantee(guarantee, 2), Some([4, 5, 978]));
-        assert_eq!(read_guarantee(guarantee, 3), Some([4, 5, 978]));
+        assert_eq!(read_cover(guarantee, 2), Some([4, 5, 978]));
+        assert_eq!(read_cover(guarantee, 3), Some([4, 5, 978]));
+        let swap = b"S\t1\t2\t4\t978\t90\t90\t1\t1\t1\t0\n";
+        assert_eq!(read_cover(swap, 1), Some([4, 0, 978]));
+        let swap = b"S\t1\t2\t4\t5\t978\t90\t90\t1\t1\t1\t0\n";
+        assert_eq!(read_cover(swap, 2), Some([4, 5, 978]));
+        assert_eq!(read_cover(swap, 3), Some([4, 5, 978]));
     }
 
     #[test]

@@ -9,7 +9,7 @@ struct Edition {
     number: u64,
     /// The first line of its books.
     header: &'static [u8],
-    /// Whether D and G lines send the sovereign's step.
+    /// Whether D, G and S lines send the sovereign's step.
     sends_sovereign: bool,
     /// Whether no unrated bank or corporate weighs less than its sovereign.
     has_floor: bool,
@@ -56,7 +56,7 @@ pub fn headed(book: &[u8]) -> Option<(u64, &[u8])> {
         .find_map(|edition| Some((edition.number, book.strip_prefix(edition.header)?)))
 }
 
-/// Whether D and G lines of a known edition send the sovereign's step.
+/// Whether D, G and S lines of a known edition send the sovereign's step.
 pub fn sends_sovereign(edition: u64) -> bool {
     find(edition).is_some_and(|edition| edition.sends_sovereign)
 }

@@ -1,5 +1,5 @@
 //! A second implementation of the relief calculator of document 01, with
-//! requests L5, L9 and L11 of document 02, written from the papers alone:
+//! requests L1, L5, L9 and L11 of document 02, written from the papers alone:
 //! exposure after collateral (E*), grounds for protection left out, and the
 //! risk-weighted amount, for a book of deals or for one deal.
 //!
@@ -28,8 +28,8 @@ mod weights;
 pub mod ground;
 pub mod refusal;
 
-pub use acceptance::{add_collateral, add_guarantee, open};
+pub use acceptance::{add_collateral, add_guarantee, add_swap, open};
 pub use answer::{answer_book, deals, BookReply, DealRead};
 pub use printing::{printed, printed_reports};
-pub use record::{Collateral, Guarantee, Record, Terms, AMOUNT_LIMIT, LIST_LIMIT};
+pub use record::{Collateral, Cover, Guarantee, Record, Swap, Terms, AMOUNT_LIMIT, LIST_LIMIT};
 pub use reporting::{report, Outcome, Report};

@@ -4,7 +4,7 @@
 use std::fmt::{self, Display, Formatter};
 
 use crate::answer::{answer_book, deals, DealRead, NUMBERS_A_DEAL};
-use crate::record::Record;
+use crate::record::{Cover, Record};
 use crate::reporting::{evaluated, Outcome};
 
 /// Deals that the results list of `crmbook` has room for.
@@ -73,11 +73,19 @@ fn write_report(out: &mut Formatter, serial: u64, record: &Record) -> fmt::Resul
     for (place, (outcome, _)) in (1..).zip(collateral) {
         writeln!(out, "{serial}\tCOLLATERAL\t{place}\t{outcome}")?;
     }
-    for (place, ((outcome, portion), _)) in (1..).zip(guarantees) {
-        writeln!(out, "{serial}\tGUARANTEE\t{place}\t{outcome}\t{portion}")?;
+    for (place, ((outcome, portion), item)) in (1..).zip(guarantees) {
+        let word = word_for(item);
+        writeln!(out, "{serial}\t{word}\t{place}\t{outcome}\t{portion}")?;
     }
     writeln!(out, "{serial}\tREST\t{}", report.rest)?;
     writeln!(out, "{serial}\tWEIGHTED\t{}", report.weighted)
+}
+
+fn word_for(item: &Cover) -> &'static str {
+    match item {
+        Cover::Guarantee(_) => "GUARANTEE",
+        Cover::Swap(_) => "SWAP",
+    }
 }
 
 impl Display for Outcome {

@@ -1,5 +1,5 @@
-//! What a deal holds (01: What a deal holds). All fields are plain numbers, so
-//! that a record can also hold what opening and adding would refuse.
+//! What a deal holds (01: What a deal holds; 02: L1). All fields are plain
+//! numbers, so that a record can also hold what opening and adding would refuse.
 
 /// Largest amount of a deal or an item, in currency units.
 pub const AMOUNT_LIMIT: u64 = 1_000_000_000_000;
@@ -73,6 +73,53 @@ pub struct Guarantee {
     pub unreflected: u64,
 }
 
+/// A credit default swap (02: L1): a guarantee in all but its letter where
+/// restructuring is a credit event.
+#[derive(Clone, Copy, Debug, Default, PartialEq, Eq)]
+pub struct Swap {
+    /// What a swap sends as a guarantee does.
+    pub guarantee: Guarantee,
+    /// Restructuring is a credit event (CRE22.86, CRE22.87).
+    pub restructuring: u64,
+}
+
+/// An entry of the list that guarantees and swaps share. A guarantee has no
+/// restructuring condition, so no place of a record can hold one for it.
+#[derive(Clone, Copy, Debug, PartialEq, Eq)]
+pub enum Cover {
+    Guarantee(Guarantee),
+    Swap(Swap),
+}
+
+impl Cover {
+    /// What both send alike.
+    pub fn guarantee(&self) -> &Guarantee {
+        match self {
+            Cover::Guarantee(item) => item,
+            Cover::Swap(item) => &item.guarantee,
+        }
+    }
+}
+
+impl Default for Cover {
+    /// A place of zeros, as in the lists of a new deal.
+    fn default() -> Self {
+        Cover::Guarantee(Guarantee::default())
+    }
+}
+
+impl From<Guarantee> for Cover {
+    fn from(item: Guarantee) -> Self {
+        Cover::Guarantee(item)
+    }
+}
+
+impl From<Swap> for Cover {
+    fn from(item: Swap) -> Self {
+        Cover::Swap(item)
+    }
+}
+
 /// A deal with its protection. Only the places below a list's count belong to
 /// the deal; a count may be any number and is tested by reporting and adding.
 #[derive(Clone, Debug, PartialEq, Eq)]
@@ -80,8 +127,10 @@ pub struct Record {
     pub terms: Terms,
     pub collateral_count: u64,
     pub collateral: [Collateral; LIST_LIMIT],
+    /// Counts guarantees and swaps together.
     pub guarantee_count: u64,
-    pub guarantees: [Guarantee; LIST_LIMIT],
+    /// Guarantees and swaps in one order of adding.
+    pub guarantees: [Cover; LIST_LIMIT],
 }
 
 impl Record {
@@ -92,7 +141,7 @@ impl Record {
             collateral_count: 0,
             collateral: [Collateral::default(); LIST_LIMIT],
             guarantee_count: 0,
-            guarantees: [Guarantee::default(); LIST_LIMIT],
+            guarantees: [Cover::default(); LIST_LIMIT],
         }
     }
 
@@ -101,8 +150,9 @@ impl Record {
         counted(&self.collateral, self.collateral_count)
     }
 
-    /// The counted guarantees; all sixteen places where the count is larger.
-    pub(crate) fn counted_guarantees(&self) -> &[Guarantee] {
+    /// The counted guarantees and swaps; all sixteen places where the count is
+    /// larger.
+    pub(crate) fn counted_guarantees(&self) -> &[Cover] {
         counted(&self.guarantees, self.guarantee_count)
     }
 }
@@ -175,6 +225,18 @@ impl From<[u64; 10]> for Guarantee {
             lawful,
             direct,
             unreflected,
+        }
+    }
+}
+
+impl From<[u64; 11]> for Swap {
+    /// The fields of an S line of edition 2 or 3 in its order: those of a
+    /// guarantee, then the restructuring condition.
+    fn from(fields: [u64; 11]) -> Self {
+        let [guarantee @ .., restructuring] = fields;
+        Swap {
+            guarantee: guarantee.into(),
+            restructuring,
         }
     }
 }

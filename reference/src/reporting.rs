@@ -1,7 +1,8 @@
-//! Reporting a deal (01: From items to the weighted amount; Reporting a deal).
+//! Reporting a deal (01: From items to the weighted amount; Reporting a deal;
+//! 02: L1).
 
 use crate::acceptance::is_accepted;
-use crate::protection::{collateral_value, guarantee_value};
+use crate::protection::{collateral_value, cover_value};
 use crate::record::{Record, Terms, LIST_LIMIT};
 use crate::scaling::{deal_days, scaled};
 use crate::share::raised;
@@ -33,9 +34,9 @@ pub struct Report {
     /// E*, the exposure after collateral.
     pub exposure: u64,
     pub collateral: [Outcome; LIST_LIMIT],
-    /// Each guarantee's outcome and the portion of E* that it covers.
+    /// Each guarantee's or swap's outcome and the portion of E* that it covers.
     pub guarantees: [(Outcome, u64); LIST_LIMIT],
-    /// The part of E* that no guarantee covers.
+    /// The part of E* that no guarantee or swap covers.
     pub rest: u64,
     /// The risk-weighted amount.
     pub weighted: u64,
@@ -107,13 +108,13 @@ fn value_guarantees(record: &Record, report: &mut Report) {
         .iter()
         .zip(&mut report.guarantees)
     {
-        place.0 = guarantee_value(&record.terms, item).into();
+        place.0 = cover_value(&record.terms, item).into();
     }
 }
 
-/// Lets the recognised guarantees cover E* in rising order of weight and gives
-/// the rest the counterparty's weight. The division by 100 comes once, at the
-/// end, so that no portion is rounded by itself.
+/// Lets the recognised guarantees and swaps cover E* in a single rising order of
+/// weight and gives the rest the counterparty's weight. The division by 100 comes
+/// once, at the end, so that no portion is rounded by itself.
 fn cover(record: &Record, report: &mut Report) {
     let mut rest = report.exposure;
     let mut hundredfold = 0;
@@ -130,8 +131,8 @@ fn cover(record: &Record, report: &mut Report) {
     report.weighted = hundredfold.div_ceil(100) as u64;
 }
 
-/// Weight and place of each recognised guarantee by rising weight. The sort is
-/// stable, so equal weights stay in order of adding.
+/// Weight and place of each recognised guarantee and swap by rising weight. The
+/// sort is stable, so equal weights stay in order of adding.
 fn ranked<'a>(
     record: &Record,
     report: &Report,
@@ -140,7 +141,8 @@ fn ranked<'a>(
     let mut recognised = 0;
     for (place, item) in record.counted_guarantees().iter().enumerate() {
         if matches!(report.guarantees[place].0, Outcome::Valued(_)) {
-            ranking[recognised] = (provider_weight(item, record.terms.edition), place);
+            let weight = provider_weight(item.guarantee(), record.terms.edition);
+            ranking[recognised] = (weight, place);
             recognised += 1;
         }
     }

@@ -11,8 +11,8 @@ pub fn deal_days(kind: u64, interval: u64) -> u64 {
     interval + (minimum - 1)
 }
 
-/// Holding period in business days of the currency haircut of a guarantee,
-/// whatever the kind of the deal.
+/// Holding period in business days of the currency haircut of a guarantee or
+/// swap, whatever the kind of the deal.
 pub fn guarantee_days(interval: u64) -> u64 {
     interval + 9
 }

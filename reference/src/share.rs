@@ -1,4 +1,4 @@
-//! Shares of an amount (01: From items to the weighted amount, 1 to 3).
+//! Shares of an amount (01: From items to the weighted amount, 1 to 3; 02: L1).
 
 /// The whole in millionths, the unit of the haircuts.
 const WHOLE: u64 = 1_000_000;
@@ -12,6 +12,10 @@ pub struct Share {
 
 impl Share {
     pub const ALL: Share = Share { part: 1, whole: 1 };
+    pub const SIXTY_PERCENT: Share = Share {
+        part: 60,
+        whole: 100,
+    };
 
     /// A part larger than the whole counts as the whole, a whole of 0 as 1.
     pub fn new(part: u64, whole: u64) -> Self {
@@ -63,6 +67,8 @@ mod tests {
     fn shares_round_down_and_raising_rounds_up() {
         assert_eq!(Share::new(2, 3).of(2), 1);
         assert_eq!(Share::new(3, 3).of(7), 7);
+        let sixty_percent = [0, 1, 2, 3, 4, 5].map(|n| Share::SIXTY_PERCENT.of(n));
+        assert_eq!(sixty_percent, [0, 0, 1, 1, 2, 3]);
         assert_eq!(raised(100, 250_000), 125);
         assert_eq!(raised(1, 1), 2);
         assert_eq!(raised(1, 0), 1);

@@ -15,8 +15,9 @@ pub fn counterparty_weight(terms: &Terms) -> u64 {
     }
 }
 
-/// Weight of the provider of a guarantee in an accepted deal of the edition. An
-/// unrated other entity has no floor: ground 28 leaves it out in any case.
+/// Weight of the provider of a guarantee or swap in an accepted deal of the
+/// edition. An unrated other entity has no floor: ground 28 leaves it out in any
+/// case.
 pub fn provider_weight(item: &Guarantee, edition: u64) -> u64 {
     let own = edition::tables(edition).risk_weight(item.class, item.step);
     match (item.class, item.step) {

@@ -108,7 +108,7 @@ fn deals_of_a_book_headed_3_hold_edition_3() {
         currency: 840,
         ..guarantee_of([3, 3, 6])
     };
-    assert_eq!(first.guarantees[1], second);
+    assert_eq!(first.guarantees[1], second.into());
 }
 
 /// The lines of a sound deal of edition 3.
@@ -246,7 +246,7 @@ fn other_headers_are_9_and_leave_the_list_untouched() {
 fn edition_3_is_accepted_and_edition_4_refused() {
     let third = terms_of([2, 0, 5], 3);
     let record = deal(third, &[CASH], &[GUARANTEE]);
-    assert_eq!(refusals(&record), [0; 3]);
+    assert_eq!(refusals(&record), [0; 4]);
     // From 7 on they would be 3 if cut to 2, 8, 16 or 32 bits.
     for edition in [4, 5, 7, 259, (1 << 16) + 3, (1 << 32) + 3, u64::MAX] {
         let terms = Terms { edition, ..third };
@@ -258,7 +258,7 @@ fn edition_3_is_accepted_and_edition_4_refused() {
         assert_eq!(open(over), Err(1), "{edition}");
         let mut record = record.clone();
         record.terms = terms;
-        assert_eq!(refusals(&record), [40; 3], "{edition}");
+        assert_eq!(refusals(&record), [40; 4], "{edition}");
         let reply = report(&record);
         assert_eq!([reply.exposure, reply.rest, reply.weighted], [0; 3]);
         assert_eq!(reply.collateral, [Valued(0); 16]);
@@ -321,7 +321,10 @@ fn without_what_changes(record: &Record) -> Record {
         (terms.lent_goods, terms.lent_step, terms.lent_life) = (1, 0, 0);
     }
     let places = kept.guarantees.iter_mut();
-    let providers = places.map(|item| (item.class, &mut item.step));
+    let providers = places.map(|item| {
+        let item = shared(item);
+        (item.class, &mut item.step)
+    });
     for (class, step) in providers.chain([(terms.class, &mut terms.step)]) {
         match (class, *step) {
             (2, 0 | 2) => *step = 3,

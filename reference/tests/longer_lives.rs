@@ -67,7 +67,7 @@ impl Deal {
         record.collateral_count = 1;
         record.collateral[0] = self.collateral;
         record.guarantee_count = 1;
-        record.guarantees[0] = self.guarantee;
+        record.guarantees[0] = self.guarantee.into();
         record
     }
 
@@ -207,7 +207,7 @@ fn long_everywhere(goods: u64, days: u64) -> Record {
         collateral_count: 16,
         collateral: [collateral; 16],
         guarantee_count: 16,
-        guarantees: [guarantee; 16],
+        guarantees: [guarantee.into(); 16],
     }
 }
 
@@ -216,9 +216,12 @@ fn long_days_are_read_back_whole() {
     for goods in DEBT {
         for days in LONG {
             let record = long_everywhere(goods, days);
-            let (terms, item, guarantee) =
-                (record.terms, record.collateral[0], record.guarantees[0]);
-            let added = deal(terms, &record.collateral, &record.guarantees);
+            let (terms, item, guarantee) = (
+                record.terms,
+                record.collateral[0],
+                *record.guarantees[0].guarantee(),
+            );
+            let added = deal(terms, &record.collateral, &[guarantee; 16]);
             assert_eq!(added, record);
             let lines = [
                 terms_line(&terms),
@@ -316,6 +319,7 @@ fn with_other_long_days(record: &Record, term: u64, life: u64) -> Record {
         lengthen(&mut item.original);
     }
     for item in &mut changed.guarantees {
+        let item = shared(item);
         lengthen(&mut item.residual);
         lengthen(&mut item.original);
     }
@@ -494,6 +498,7 @@ fn the_recorded_book_reaches_the_limit_of_then_in_every_field() {
             raise(4, item.original);
         }
         for item in &record.guarantees {
+            let item = item.guarantee();
             raise(5, item.residual);
             raise(6, item.original);
         }

@@ -4,7 +4,8 @@ mod common;
 
 use common::*;
 use reference::{
-    add_collateral, add_guarantee, open, report, Collateral, Guarantee, Outcome, Record, Terms,
+    add_collateral, add_guarantee, add_swap, open, report, Collateral, Cover, Guarantee, Outcome,
+    Record, Terms,
 };
 
 fn opening(terms: Terms) -> u64 {
@@ -187,7 +188,7 @@ fn a_new_deal_has_lists_of_zeros() {
         collateral_count: 0,
         collateral: [Collateral::default(); 16],
         guarantee_count: 0,
-        guarantees: [Guarantee::default(); 16],
+        guarantees: [Cover::default(); 16],
     };
     assert_eq!(open(TERMS), Ok(expected));
 }
@@ -390,8 +391,9 @@ fn is_40(record: &Record) -> bool {
     let mut same = record.clone();
     let added = add_collateral(&mut same, CASH);
     let guaranteed = add_guarantee(&mut same, GUARANTEE);
+    let swapped = add_swap(&mut same, SWAP);
     let reply = report(&same);
-    let refused = [added, guaranteed, reply.refusal] == [40; 3];
+    let refused = [added, guaranteed, swapped, reply.refusal] == [40; 4];
     if refused {
         assert_eq!(&same, record);
         assert_eq!(reply.collateral, [Outcome::Valued(0); 16]);
@@ -400,6 +402,7 @@ fn is_40(record: &Record) -> bool {
     } else {
         assert_ne!(added, 40);
         assert_ne!(guaranteed, 40);
+        assert_ne!(swapped, 40);
         assert_eq!(reply.refusal, 0);
     }
     refused
@@ -437,7 +440,7 @@ fn counted_fields_that_would_be_refused_are_40() {
         for place in 0..10 {
             let mut record = sound.clone();
             let spoilt = changed(guarantee_fields(&GUARANTEE), &(place, u64::MAX, 0));
-            record.guarantees[item] = Guarantee::from(spoilt);
+            record.guarantees[item] = Guarantee::from(spoilt).into();
             assert_eq!(is_40(&record), item < 3, "guarantee {item} {place}");
         }
     }
@@ -445,7 +448,7 @@ fn counted_fields_that_would_be_refused_are_40() {
     record.collateral[2].original = 1_799;
     assert!(is_40(&record), "residual above original");
     let mut record = sound.clone();
-    record.guarantees[0].original = 1_799;
+    shared(&mut record.guarantees[0]).original = 1_799;
     assert!(is_40(&record), "residual above original");
 }
 
@@ -456,7 +459,7 @@ fn an_empty_record_is_40() {
         collateral_count: 0,
         collateral: [Collateral::default(); 16],
         guarantee_count: 0,
-        guarantees: [Guarantee::default(); 16],
+        guarantees: [Cover::default(); 16],
     };
     assert!(is_40(&record));
 }
@@ -468,7 +471,7 @@ fn the_largest_numbers_everywhere_are_40() {
         collateral_count: u64::MAX,
         collateral: [Collateral::from([u64::MAX; 11]); 16],
         guarantee_count: u64::MAX,
-        guarantees: [Guarantee::from([u64::MAX; 10]); 16],
+        guarantees: [Guarantee::from([u64::MAX; 10]).into(); 16],
     };
     assert!(is_40(&record));
 }

@@ -4,8 +4,9 @@ mod common;
 
 use common::*;
 use reference::{
-    add_collateral, add_guarantee, answer_book, deals, open, printed, printed_reports, report,
-    BookReply, Collateral, DealRead, Guarantee, Outcome, Record, Report, Terms,
+    add_collateral, add_guarantee, add_swap, answer_book, deals, open, printed, printed_reports,
+    report, BookReply, Collateral, Cover, DealRead, Guarantee, Outcome, Record, Report, Swap,
+    Terms,
 };
 
 const ROUNDS: u64 = 20_000;
@@ -59,7 +60,7 @@ fn no_value_exceeds_its_amount_and_grounds_are_known() {
         }
         for (item, (outcome, _)) in record.guarantees.iter().zip(report.guarantees) {
             match outcome {
-                Outcome::Valued(value) => assert!(value <= item.amount),
+                Outcome::Valued(value) => assert!(value <= item.guarantee().amount),
                 Outcome::LeftOut(ground) => {
                     assert!([21, 23, 25, 26, 27, 28, 29].contains(&ground));
                 }
@@ -79,7 +80,11 @@ fn places_past_a_count_hold_zeros_and_have_no_effect() {
             *place = Collateral::from([random.any(); 11]);
         }
         for place in &mut filled.guarantees[record.guarantee_count as usize..] {
-            *place = Guarantee::from([random.any(); 10]);
+            *place = if random.chance(2) {
+                Guarantee::from([random.any(); 10]).into()
+            } else {
+                Swap::from([random.any(); 11]).into()
+            };
         }
         assert_eq!(report(&filled), first);
         for outcome in &first.collateral[record.collateral_count as usize..] {
@@ -100,7 +105,7 @@ fn cover_by_picking(record: &Record, report: &Report) -> ([u64; 16], u64) {
         .filter(|&place| matches!(report.guarantees[place].0, Outcome::Valued(1..)))
         .collect();
     let weight_at = |place: usize| {
-        let item = &record.guarantees[place];
+        let item = record.guarantees[place].guarantee();
         let party = [item.class, item.step, item.sovereign_step];
         weight_with_floor(party, &[2], terms.edition)
     };
@@ -139,7 +144,7 @@ fn protection_and_more_of_it_never_raise_the_weighted_amount() {
         let before = report(&record);
         assert!(before.weighted <= bare.weighted);
         add_collateral(&mut record, random.collateral());
-        add_guarantee(&mut record, random.guarantee());
+        add_cover(&mut record, random.cover());
         record.terms.interval = random.within(1, record.terms.interval);
         assert!(report(&record).weighted <= before.weighted);
     }
@@ -162,6 +167,13 @@ fn refused_adds_leave_the_record_unchanged() {
         let mut fields = guarantee_fields(&random.guarantee());
         random.spoil(&mut fields);
         if add_guarantee(&mut record, fields.into()) != 0 {
+            assert_eq!(record, before);
+            refused += 1;
+        }
+        let mut record = before.clone();
+        let mut fields = swap_fields(&random.swap());
+        random.spoil(&mut fields);
+        if add_swap(&mut record, fields.into()) != 0 {
             assert_eq!(record, before);
             refused += 1;
         }
@@ -193,6 +205,18 @@ fn value_by_the_steps(amount: u64, haircuts: u64, residual: u64, deal_term: u64)
     value * (residual.min(longest) - 90) / (longest - 90)
 }
 
+/// The amount that L1 starts from: 60 percent of the smaller of the swap and the
+/// deal's amount where restructuring is no credit event.
+fn amount_by_the_request(item: &Cover, deal_amount: u64) -> u64 {
+    let amount = item.guarantee().amount;
+    match item {
+        Cover::Swap(Swap {
+            restructuring: 0, ..
+        }) => amount.min(deal_amount) * 60 / 100,
+        _ => amount,
+    }
+}
+
 #[test]
 fn values_are_those_of_the_steps() {
     let mut random = Random::new(11);
@@ -220,11 +244,12 @@ fn values_are_those_of_the_steps() {
         let exposure = raised.saturating_sub(total).min(terms.amount);
         assert_eq!(report.exposure, exposure);
         for (item, (outcome, _)) in record.guarantees.iter().zip(report.guarantees) {
-            if let (Outcome::Valued(value), 1..) = (outcome, item.class) {
-                let foreign = u64::from(item.currency != terms.currency);
+            let sent = item.guarantee();
+            if let (Outcome::Valued(value), 1..) = (outcome, sent.class) {
+                let amount = amount_by_the_request(item, terms.amount);
+                let foreign = u64::from(sent.currency != terms.currency);
                 let haircut = foreign * scaled(80_000, terms.interval + 9);
-                let expected =
-                    value_by_the_steps(item.amount, haircut, item.residual, terms.residual);
+                let expected = value_by_the_steps(amount, haircut, sent.residual, terms.residual);
                 assert_eq!(value, expected);
             }
         }
@@ -242,6 +267,13 @@ fn wild(random: &mut Random) -> u64 {
     }
 }
 
+fn with_restructuring(swap: Swap, restructuring: u64) -> Cover {
+    Cover::Swap(Swap {
+        restructuring,
+        ..swap
+    })
+}
+
 #[test]
 fn wild_records_never_panic_and_answer_40_alike() {
     let mut random = Random::new(7);
@@ -251,16 +283,17 @@ fn wild_records_never_panic_and_answer_40_alike() {
         for _ in 0..random.within(0, 3) {
             let number = wild(&mut random);
             let place = random.within(0, 15) as usize;
-            match random.within(0, 9) {
+            match random.within(0, 10) {
                 0 => record.collateral_count = number,
                 1 => record.guarantee_count = number,
                 2 => record.terms.amount = number,
                 3 => record.terms.interval = number,
                 4 => record.collateral[place].residual = number,
-                5 => record.guarantees[place].original = number,
+                5 => shared(&mut record.guarantees[place]).original = number,
                 6 => record.terms.edition = number,
                 7 => record.terms.sovereign_step = number,
-                8 => record.guarantees[place].sovereign_step = number,
+                8 => shared(&mut record.guarantees[place]).sovereign_step = number,
+                9 => record.guarantees[place] = with_restructuring(random.swap(), number),
                 _ => record.terms.lent_goods = number,
             }
         }
@@ -280,7 +313,7 @@ fn wild_records_never_panic_and_answer_40_alike() {
 
 /// A line of a random book of the edition: mostly sound, at times spoilt or cut.
 fn random_line(random: &mut Random, edition: u64, first: bool) -> String {
-    let letter = if first { 0 } else { random.within(0, 5) };
+    let letter = if first { 0 } else { random.within(0, 7) };
     let mut text = match letter {
         0 => {
             let terms = random.terms();
@@ -296,6 +329,13 @@ fn random_line(random: &mut Random, edition: u64, first: bool) -> String {
                 random.spoil(&mut fields);
             }
             line('C', &fields)
+        }
+        4..=5 => {
+            let mut fields = sent_swap(&random.swap(), edition);
+            if random.chance(20) {
+                random.spoil(&mut fields);
+            }
+            line('S', &fields)
         }
         _ => {
             let mut fields = sent_guarantee(&random.guarantee(), edition);
@@ -340,7 +380,7 @@ fn fields(line: &str, letter: &str) -> Option<Vec<u64>> {
     numbers
 }
 
-/// The numbers of a D or G line, those of edition 1 with 0 behind the step.
+/// The numbers of a D, G or S line, those of edition 1 with 0 behind the step.
 fn party_fields(line: &str, letter: &str, edition: u64) -> Option<Vec<u64>> {
     let mut numbers = fields(line, letter)?;
     if edition == 1 && numbers.len() > 3 {
@@ -360,9 +400,12 @@ fn add_line(record: &mut Record, line: &str) -> u64 {
     let collateral = fields(line, "C").and_then(|numbers| <[u64; 11]>::try_from(numbers).ok());
     let guarantee = party_fields(line, "G", record.terms.edition)
         .and_then(|numbers| <[u64; 10]>::try_from(numbers).ok());
-    match (collateral, guarantee) {
-        (Some(numbers), _) => add_collateral(record, numbers.into()),
-        (_, Some(numbers)) => add_guarantee(record, numbers.into()),
+    let swap = party_fields(line, "S", record.terms.edition)
+        .and_then(|numbers| <[u64; 11]>::try_from(numbers).ok());
+    match (collateral, guarantee, swap) {
+        (Some(numbers), _, _) => add_collateral(record, numbers.into()),
+        (_, Some(numbers), _) => add_guarantee(record, numbers.into()),
+        (_, _, Some(numbers)) => add_swap(record, numbers.into()),
         _ => 11,
     }
 }
@@ -445,7 +488,7 @@ fn deals_and_answers_agree() {
 #[test]
 fn any_bytes_are_answered() {
     let mut random = Random::new(10);
-    let alphabet = b"DCG\t\t\t\n\n0123456789\r \0\xff";
+    let alphabet = b"DCGS\t\t\t\n\n0123456789\r \0\xff";
     for _ in 0..5_000 {
         let mut book = format!("{}D\t", header(random.edition())).into_bytes();
         book.truncate(random.pick(&[0, 6, 8, 8, 8]) as usize);

@@ -21,7 +21,7 @@ fn opening(terms: Terms) -> u64 {
 fn untested(terms: Terms, guarantee: Guarantee) -> Record {
     let mut record = deal(TERMS, &[], &[GUARANTEE]);
     record.terms = terms;
-    record.guarantees[0] = guarantee;
+    record.guarantees[0] = guarantee.into();
     record
 }
 
@@ -37,7 +37,7 @@ fn a_wrong_sovereign_step_of_the_counterparty_is_3() {
                 let refusal = if wrong { 3 } else { 0 };
                 assert_eq!(opening(terms), refusal, "{terms:?}");
                 let refusals = refusals(&untested(terms, GUARANTEE));
-                assert_eq!(refusals, [if wrong { 40 } else { 0 }; 3], "{terms:?}");
+                assert_eq!(refusals, [if wrong { 40 } else { 0 }; 4], "{terms:?}");
                 if WITH_SOVEREIGN.contains(&edition) {
                     let found = four_numbers(&(header(edition) + &terms_line(&terms)));
                     assert_eq!(found[1], refusal, "{terms:?}");
@@ -60,7 +60,7 @@ fn a_wrong_sovereign_step_of_a_provider_is_3() {
                 assert_eq!(add_guarantee(&mut record, item), refusal, "{item:?}");
                 assert_eq!(record.guarantee_count, u64::from(!wrong));
                 let refusals = refusals(&untested(terms, item));
-                assert_eq!(refusals, [if wrong { 40 } else { 0 }; 3], "{item:?}");
+                assert_eq!(refusals, [if wrong { 40 } else { 0 }; 4], "{item:?}");
                 if WITH_SOVEREIGN.contains(&edition) {
                     let line = guarantee_line(&item, edition);
                     let found = four_numbers(&(header(edition) + &terms_line(&terms) + &line));
@@ -123,7 +123,7 @@ fn an_unknown_edition_in_a_record_is_40() {
     for edition in UNKNOWN_EDITIONS {
         let mut record = deal(TERMS, &[CASH; 16], &[GUARANTEE; 16]);
         record.terms.edition = edition;
-        assert_eq!(refusals(&record), [40; 3], "{edition}");
+        assert_eq!(refusals(&record), [40; 4], "{edition}");
         let reply = report(&record);
         assert_eq!([reply.exposure, reply.rest, reply.weighted], [0; 3]);
         assert_eq!(reply.collateral, [Valued(0); 16]);
@@ -331,7 +331,10 @@ fn with_sovereigns(record: &Record, edition: u64, step: u64) -> Record {
     let mut changed = record.clone();
     changed.terms.edition = edition;
     let places = changed.guarantees.iter_mut();
-    let providers = places.map(|item| (item.class, &mut item.sovereign_step));
+    let providers = places.map(|item| {
+        let item = shared(item);
+        (item.class, &mut item.sovereign_step)
+    });
     let terms = &mut changed.terms;
     for (class, place) in providers.chain([(terms.class, &mut terms.sovereign_step)]) {
         if [2, 3].contains(&class) {
@@ -398,6 +401,7 @@ fn lean_on_unrated_banks(record: &mut Record) {
     record.terms.class = 3;
     record.terms.step = 6;
     for item in &mut record.guarantees[..record.guarantee_count as usize] {
+        let item = shared(item);
         item.class = 2;
         item.step = 0;
     }
@@ -414,7 +418,7 @@ fn a_better_sovereign_step_of_a_provider_never_raises_the_weighted_amount() {
         }
         let mut before = report(&record).weighted;
         for place in 0..record.guarantee_count as usize {
-            let step = &mut record.guarantees[place].sovereign_step;
+            let step = &mut shared(&mut record.guarantees[place]).sovereign_step;
             // A betterment is between rated steps.
             *step = random.within(1.min(*step), *step);
             let now = report(&record).weighted;

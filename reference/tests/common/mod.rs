@@ -3,8 +3,8 @@
 #![allow(dead_code)] // each test file uses some of these
 
 use reference::{
-    add_collateral, add_guarantee, answer_book, open, report, Collateral, Guarantee, Outcome,
-    Record, Terms,
+    add_collateral, add_guarantee, add_swap, answer_book, open, report, Collateral, Cover,
+    Guarantee, Outcome, Record, Swap, Terms,
 };
 
 pub const EDITIONS: [u64; 3] = [1, 2, 3];
@@ -56,6 +56,12 @@ pub const GUARANTEE: Guarantee = Guarantee {
     unreflected: 1,
 };
 
+/// A swap that pays like the guarantee, save after a restructuring.
+pub const SWAP: Swap = Swap {
+    guarantee: GUARANTEE,
+    restructuring: 0,
+};
+
 /// A counterparty or provider: class, step and sovereign's step.
 pub type Party = [u64; 3];
 
@@ -75,6 +81,19 @@ pub fn guarantee_of([class, step, sovereign_step]: Party) -> Guarantee {
         step,
         sovereign_step,
         ..GUARANTEE
+    }
+}
+
+/// The swap that sends what the guarantee does.
+pub fn swap_for(guarantee: Guarantee) -> Swap {
+    Swap { guarantee, ..SWAP }
+}
+
+/// The swap with restructuring as a credit event.
+pub fn met(swap: Swap) -> Swap {
+    Swap {
+        restructuring: 1,
+        ..swap
     }
 }
 
@@ -105,6 +124,31 @@ pub fn deal(terms: Terms, collateral: &[Collateral], guarantees: &[Guarantee]) -
     record
 }
 
+/// Adds a guarantee or a swap.
+pub fn add_cover(record: &mut Record, item: Cover) -> u64 {
+    match item {
+        Cover::Guarantee(item) => add_guarantee(record, item),
+        Cover::Swap(item) => add_swap(record, item),
+    }
+}
+
+/// Opens a deal and adds guarantees and swaps, none of which may be refused.
+pub fn covered(terms: Terms, items: &[Cover]) -> Record {
+    let mut record = open(terms).expect("accepted terms");
+    for item in items {
+        assert_eq!(add_cover(&mut record, *item), 0);
+    }
+    record
+}
+
+/// What a guarantee and a swap send alike.
+pub fn shared(item: &mut Cover) -> &mut Guarantee {
+    match item {
+        Cover::Guarantee(item) => item,
+        Cover::Swap(item) => &mut item.guarantee,
+    }
+}
+
 /// The same deal under the edition.
 pub fn under(record: &Record, edition: u64) -> Record {
     let mut changed = record.clone();
@@ -122,15 +166,21 @@ pub fn outcome_of_guarantee(terms: Terms, item: Guarantee) -> Outcome {
     report(&deal(terms, &[], &[item])).guarantees[0].0
 }
 
-/// Refusals of the record by reporting and by both ways of adding.
-pub fn refusals(record: &Record) -> [u64; 3] {
+/// Outcome of a single swap.
+pub fn outcome_of_swap(terms: Terms, item: Swap) -> Outcome {
+    report(&covered(terms, &[item.into()])).guarantees[0].0
+}
+
+/// Refusals of the record by reporting and by every way of adding.
+pub fn refusals(record: &Record) -> [u64; 4] {
     let mut same = record.clone();
     let added = add_collateral(&mut same, CASH);
     let guaranteed = add_guarantee(&mut same, GUARANTEE);
-    if added == 40 && guaranteed == 40 {
+    let swapped = add_swap(&mut same, SWAP);
+    if [added, guaranteed, swapped] == [40; 3] {
         assert_eq!(&same, record);
     }
-    [report(record).refusal, added, guaranteed]
+    [report(record).refusal, added, guaranteed, swapped]
 }
 
 /// The four numbers of a book of one deal.
@@ -187,6 +237,12 @@ pub fn guarantee_fields(g: &Guarantee) -> [u64; 10] {
         g.direct,
         g.unreflected,
     ]
+}
+
+pub fn swap_fields(s: &Swap) -> [u64; 11] {
+    let mut fields = [s.restructuring; 11];
+    fields[..10].copy_from_slice(&guarantee_fields(&s.guarantee));
+    fields
 }
 
 /// Whether the sovereign's step is accepted: 0 to 6 for class 2 and class 3, 0
@@ -295,6 +351,11 @@ pub fn sent_guarantee(item: &Guarantee, edition: u64) -> Vec<u64> {
     sent(&guarantee_fields(item), edition)
 }
 
+/// The numbers of an S line in a book of the edition.
+pub fn sent_swap(item: &Swap, edition: u64) -> Vec<u64> {
+    sent(&swap_fields(item), edition)
+}
+
 /// Lines of edition 1 leave the sovereign's step out.
 fn sent(fields: &[u64], edition: u64) -> Vec<u64> {
     let mut sent = fields.to_vec();
@@ -324,6 +385,24 @@ pub fn collateral_line(item: &Collateral) -> String {
 
 pub fn guarantee_line(item: &Guarantee, edition: u64) -> String {
     line('G', &sent_guarantee(item, edition))
+}
+
+pub fn swap_line(item: &Swap, edition: u64) -> String {
+    line('S', &sent_swap(item, edition))
+}
+
+/// The G or S line of the item.
+pub fn cover_line(item: &Cover, edition: u64) -> String {
+    match item {
+        Cover::Guarantee(item) => guarantee_line(item, edition),
+        Cover::Swap(item) => swap_line(item, edition),
+    }
+}
+
+/// A book of one deal with guarantees and swaps.
+pub fn covered_book(terms: &Terms, items: &[Cover]) -> String {
+    let items = items.iter().map(|item| cover_line(item, terms.edition));
+    header(terms.edition) + &terms_line(terms) + &items.collect::<String>()
 }
 
 /// A book of one deal with collateral.
@@ -424,7 +503,7 @@ impl Random {
     }
 
     /// Residual and original term that fit each other.
-    fn cover(&mut self) -> (u64, u64) {
+    fn maturity(&mut self) -> (u64, u64) {
         let (one, other) = (self.days(), self.days());
         (one.min(other), one.max(other))
     }
@@ -451,7 +530,7 @@ impl Random {
 
     pub fn collateral(&mut self) -> Collateral {
         let (goods, step, life) = self.goods();
-        let (residual, original) = self.cover();
+        let (residual, original) = self.maturity();
         Collateral {
             amount: self.amount(),
             goods,
@@ -468,7 +547,7 @@ impl Random {
     }
 
     pub fn guarantee(&mut self) -> Guarantee {
-        let (residual, original) = self.cover();
+        let (residual, original) = self.maturity();
         let class = self.within(1, 3);
         Guarantee {
             amount: self.amount(),
@@ -484,6 +563,22 @@ impl Random {
         }
     }
 
+    pub fn swap(&mut self) -> Swap {
+        Swap {
+            guarantee: self.guarantee(),
+            restructuring: self.within(0, 1),
+        }
+    }
+
+    /// A guarantee or a swap.
+    pub fn cover(&mut self) -> Cover {
+        if self.chance(2) {
+            self.guarantee().into()
+        } else {
+            self.swap().into()
+        }
+    }
+
     /// An accepted deal.
     pub fn deal(&mut self) -> Record {
         let terms = self.terms();
@@ -491,10 +586,12 @@ impl Random {
         let collateral: Vec<_> = (0..self.within(0, most))
             .map(|_| self.collateral())
             .collect();
-        let guarantees: Vec<_> = (0..self.within(0, most))
-            .map(|_| self.guarantee())
-            .collect();
-        deal(terms, &collateral, &guarantees)
+        let mut record = deal(terms, &collateral, &[]);
+        for _ in 0..self.within(0, most) {
+            let item = self.cover();
+            assert_eq!(add_cover(&mut record, item), 0);
+        }
+        record
     }
 
     /// Sets one number to one that is likely to be refused.
