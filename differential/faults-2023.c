@@ -43,6 +43,7 @@ static struct hadlephoga_report put_together(const struct looked_into *editions,
   exposure = report_under(editions->lent, &deal).exposure;
   if (deal.terms.edition == 1)
     drop_sovereigns(&deal);
+  settle_swaps(&deal);
   leave_exposure(&deal, exposure);
   report = report_under(editions->parties, &deal);
   for (size_t i = 0; i < HADLEPHOGA_ITEMS; i++)
@@ -144,7 +145,7 @@ static void mistake_third(const char *of, struct hadlephoga_deal *deal)
     terms->sovereign_step = 0;
   mistake_weight(of, counterparty, terms->counterparty_class, &terms->step, terms->sovereign_step);
   for (size_t i = 0; i < deal->guarantee_count; i++) {
-    struct hadlephoga_guarantee *item = &deal->guarantees[i];
+    struct hadlephoga_held_guarantee *item = &deal->guarantees[i];
 
     mistake_weight(of, provider, item->provider_class, &item->step, item->sovereign_step);
   }

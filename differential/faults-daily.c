@@ -163,8 +163,9 @@ static void cut_collateral(const struct mistake *of, uint64_t days, struct hadle
 
 static void cut_guarantees(const struct mistake *of, uint64_t days, struct hadlephoga_deal *deal)
 {
+  settle_swaps(deal);
   for (size_t i = 0; i < deal->guarantee_count; i++) {
-    struct hadlephoga_guarantee *item = &deal->guarantees[i];
+    struct hadlephoga_held_guarantee *item = &deal->guarantees[i];
 
     if (item->currency != deal->terms.currency)
       item->amount = left(item->amount, figure(of, GUARANTEE, CURRENCY_HAIRCUT, days));

@@ -51,6 +51,12 @@ void mistake_guarantee_days(struct hadlephoga_guarantee *item)
   mistake_days("guarantee-original", &item->original_term);
 }
 
+void mistake_swap_days(struct hadlephoga_swap *item)
+{
+  mistake_days("swap-residual", &item->residual_term);
+  mistake_days("swap-original", &item->original_term);
+}
+
 /* All fields of a record at once. */
 void mistake_record_days(struct hadlephoga_deal *deal)
 {

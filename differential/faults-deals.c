@@ -22,6 +22,18 @@ struct hadlephoga_collateral cash(const struct hadlephoga_terms *terms, uint64_t
   return item;
 }
 
+void settle_swaps(struct hadlephoga_deal *deal)
+{
+  for (size_t i = 0; i < deal->guarantee_count; i++) {
+    struct hadlephoga_held_guarantee *item = &deal->guarantees[i];
+    uint64_t smaller = item->amount < deal->terms.amount ? item->amount : deal->terms.amount;
+
+    if (item->instrument == HADLEPHOGA_SWAP_WITHOUT_RESTRUCTURING)
+      item->amount = smaller * 60 / 100;
+    item->instrument = HADLEPHOGA_GUARANTEE_INSTRUMENT;
+  }
+}
+
 void leave_exposure(struct hadlephoga_deal *deal, uint64_t exposure)
 {
   deal->terms.amount = exposure;
@@ -54,10 +66,16 @@ static struct hadlephoga_deal read_deal(const uint8_t *line, const uint8_t *end,
   read_numbers(line, (uint64_t *)&deal.terms, HADLEPHOGA_TERMS_WIDTH - 1, left_out);
   deal.terms.edition = edition;
   while ((line = (const uint8_t *)memchr(line, '\n', (size_t)(end - line)) + 1) < end && line[0] != 'D') {
-    if (line[0] == 'C')
+    if (line[0] == 'C') {
       read_numbers(line, (uint64_t *)&deal.collateral[deal.collateral_count++], HADLEPHOGA_COLLATERAL_WIDTH, SIZE_MAX);
-    else
+    } else if (line[0] == 'G') {
       read_numbers(line, (uint64_t *)&deal.guarantees[deal.guarantee_count++], HADLEPHOGA_GUARANTEE_WIDTH, left_out);
+    } else {
+      struct hadlephoga_held_guarantee *item = &deal.guarantees[deal.guarantee_count++];
+
+      read_numbers(line, (uint64_t *)item, HADLEPHOGA_SWAP_WIDTH, left_out);
+      item->instrument += HADLEPHOGA_SWAP_WITHOUT_RESTRUCTURING;
+    }
   }
   return deal;
 }

@@ -110,6 +110,14 @@ void mistake_guarantee_party(struct hadlephoga_guarantee *item)
   item->sovereign_step = party.sovereign_step;
 }
 
+void mistake_swap_party(struct hadlephoga_swap *item)
+{
+  struct party party = {item->provider_class, item->step, item->sovereign_step};
+
+  mistake_entry("swap", &party);
+  item->sovereign_step = party.sovereign_step;
+}
+
 void mistake_record_parties(struct hadlephoga_deal *deal)
 {
   uint64_t edition = deal->terms.edition = mistaken_edition("report", deal->terms.edition);
@@ -120,7 +128,7 @@ void mistake_record_parties(struct hadlephoga_deal *deal)
   deal->terms.step = party.step;
   deal->terms.sovereign_step = party.sovereign_step;
   for (size_t i = 0; i < HADLEPHOGA_ITEMS; i++) {
-    struct hadlephoga_guarantee *item = &deal->guarantees[i];
+    struct hadlephoga_held_guarantee *item = &deal->guarantees[i];
 
     party = (struct party){item->provider_class, item->step, item->sovereign_step};
     mistake_party("report", 0, edition, &party);
@@ -155,7 +163,7 @@ static uint8_t *digit_in(uint8_t *line, const uint8_t *end, size_t field)
   return line;
 }
 
-/* A line D or G, whose digits stay digits; a book headed 1 sends no sovereign's
+/* A line D, G or S, whose digits stay digits; a book headed 1 sends no sovereign's
  * step, which then reads 0. */
 static void mistake_line(uint64_t edition, uint8_t *line, const uint8_t *end)
 {
@@ -183,7 +191,7 @@ void mistake_book_parties(uint8_t *book, size_t length)
     uint8_t *feed = (uint8_t *)memchr(line, '\n', (size_t)(end - line));
     uint8_t *next = feed == NULL ? end : feed + 1;
 
-    if (line[0] == 'D' || line[0] == 'G')
+    if (line[0] == 'D' || line[0] == 'G' || line[0] == 'S')
       mistake_line(edition, line, next);
     line = next;
   }

@@ -1,5 +1,5 @@
 /* The proved library with one number spoiled, or with some days, a party, an
- * edition, a table or a stored figure mistaken, chosen by HADLEPHOGA_FAULT. */
+ * edition, a table, a stored figure or a swap mistaken, chosen by HADLEPHOGA_FAULT. */
 #include <stdlib.h>
 #include <string.h>
 
@@ -99,6 +99,24 @@ static const uint64_t *guarantee_taken(const uint64_t *item, size_t length, stru
   return (const uint64_t *)copy;
 }
 
+/* A swap of ten numbers, or a guarantee of eleven, may be taken too. */
+static const uint64_t *swap_taken(const uint64_t *item, size_t *length, struct hadlephoga_swap *copy)
+{
+  if (*length == HADLEPHOGA_GUARANTEE_WIDTH && fault("swap-ten")) {
+    *copy = (struct hadlephoga_swap){.restructuring = 0};
+    memcpy(copy, item, HADLEPHOGA_GUARANTEE_WIDTH * sizeof *item);
+    *length = HADLEPHOGA_SWAP_WIDTH;
+    return (const uint64_t *)copy;
+  }
+  if (*length != HADLEPHOGA_SWAP_WIDTH)
+    return item;
+  memcpy(copy, item, sizeof *copy);
+  mistake_swap_days(copy);
+  mistake_swap_party(copy);
+  mistake_swap_entry(copy);
+  return (const uint64_t *)copy;
+}
+
 static const uint64_t *record_taken(const uint64_t *record, size_t length, struct hadlephoga_deal *copy)
 {
   if (length != HADLEPHOGA_RECORD_LENGTH)
@@ -106,6 +124,7 @@ static const uint64_t *record_taken(const uint64_t *record, size_t length, struc
   memcpy(copy, record, sizeof *copy);
   mistake_record_days(copy);
   mistake_record_parties(copy);
+  mistake_record_instruments("report", copy);
   return (const uint64_t *)copy;
 }
 
@@ -116,17 +135,18 @@ static int headed(const uint8_t *book, size_t length, char edition)
   return length >= 6 && memcmp(book, before, 4) == 0 && book[4] == (uint8_t)edition && book[5] == '\n';
 }
 
-static const uint8_t *book_taken(const uint8_t *book, size_t length, uint8_t *copy)
+static const uint8_t *book_taken(const uint8_t *book, size_t *length, uint8_t *copy)
 {
-  if (length > HADLEPHOGA_BOOK_LIMIT)
+  if (*length > HADLEPHOGA_BOOK_LIMIT)
     return book;
-  memcpy(copy, book, length);
-  if (fault("book-header-3-as-2") && headed(book, length, '3'))
+  memcpy(copy, book, *length);
+  if (fault("book-header-3-as-2") && headed(book, *length, '3'))
     copy[4] = '2';
-  if (fault("book-header-4") && headed(book, length, '4'))
+  if (fault("book-header-4") && headed(book, *length, '4'))
     copy[4] = '3';
-  mistake_book_days(copy, length);
-  mistake_book_parties(copy, length);
+  mistake_book_days(copy, *length);
+  mistake_book_parties(copy, *length);
+  *length = mistake_book_swaps(copy, *length);
   return copy;
 }
 
@@ -157,14 +177,16 @@ uint64_t hadlephoga_answer_book(const uint8_t *book, size_t book_length,
                                 uint64_t *deals)
 {
   uint8_t copy[HADLEPHOGA_BOOK_LIMIT];
-  const uint8_t *taken = book_taken(book, book_length, copy);
+  size_t taken_length = book_length;
+  const uint8_t *taken = book_taken(book, &taken_length, copy);
+  struct hadlephoga_answer *answers = (struct hadlephoga_answer *)results;
   uint64_t refusal;
 
   *deals = 0;
   if ((fault("book-header-2") && headed(book, book_length, '2')) ||
       (fault("book-header-3") && headed(book, book_length, '3')))
     return 9;
-  refusal = exact_answer_book(taken, book_length, results, results_length, deals);
+  refusal = exact_answer_book(taken, taken_length, results, results_length, deals);
   if (refusal != 0) {
     if (fault("book-refusal") && refusal == 13)
       return 12;
@@ -174,8 +196,10 @@ uint64_t hadlephoga_answer_book(const uint8_t *book, size_t book_length,
       results[0] = 0;
     return refusal;
   }
-  mistake_answers("book-2023", mistake_tables, taken, book_length, (struct hadlephoga_answer *)results);
-  mistake_answers("book-daily", mistake_figures, taken, book_length, (struct hadlephoga_answer *)results);
+  mistake_answers("book-2023", mistake_tables, taken, taken_length, answers);
+  mistake_answers("book-daily", mistake_figures, taken, taken_length, answers);
+  mistake_answers("book-swaps", mistake_swaps, taken, taken_length, answers);
+  mistake_full_lists(taken, taken_length, answers);
   spoil_answers(results, *deals);
   if (fault("book-behind-answers") && results_length / HADLEPHOGA_ANSWER_LENGTH > *deals)
     results[*deals * HADLEPHOGA_ANSWER_LENGTH] = 0;
@@ -232,28 +256,47 @@ static uint64_t added(const char *list, uint64_t refusal, uint64_t *record, size
     return fault_of(list, "-refusal") && refusal == 7 ? 8 : refusal;
   }
   if (fault_of(list, "-item"))
-    record[count + record[count] * width] ^= 1;
+    record[count + 1 + (record[count] - 1) * width] ^= 1;
   if (fault_of(list, "-count"))
     record[count] -= 1;
   return 0;
 }
 
-/* The record's edition is mistaken while an item is added, and then put back. */
-static uint64_t put_edition(const char *list, uint64_t *record, size_t length)
+/* The record's edition and instruments are mistaken while an item is added, and then
+ * put back. */
+static void put_mistaken(const char *list, uint64_t *record, size_t length, struct hadlephoga_deal *before)
 {
-  uint64_t edition = 0;
+  struct hadlephoga_deal *deal = (struct hadlephoga_deal *)record;
 
-  if (length == HADLEPHOGA_RECORD_LENGTH) {
-    edition = record[HADLEPHOGA_TERMS_WIDTH - 1];
-    record[HADLEPHOGA_TERMS_WIDTH - 1] = mistaken_edition(list, edition);
-  }
-  return edition;
+  if (length != HADLEPHOGA_RECORD_LENGTH)
+    return;
+  *before = *deal;
+  deal->terms.edition = mistaken_edition(list, deal->terms.edition);
+  mistake_record_instruments(list, deal);
 }
 
-static void put_back(uint64_t *record, size_t length, uint64_t edition)
+static void put_back(uint64_t *record, size_t length, const struct hadlephoga_deal *before)
 {
-  if (length == HADLEPHOGA_RECORD_LENGTH)
-    record[HADLEPHOGA_TERMS_WIDTH - 1] = edition;
+  struct hadlephoga_deal *deal = (struct hadlephoga_deal *)record;
+
+  if (length != HADLEPHOGA_RECORD_LENGTH)
+    return;
+  deal->terms.edition = before->terms.edition;
+  put_back_instruments(before, deal);
+}
+
+/* What adding a guarantee or a swap answered and left. */
+static uint64_t added_guarantee(const char *list, uint64_t refusal, uint64_t *record, size_t record_length)
+{
+  struct hadlephoga_deal *deal = (struct hadlephoga_deal *)record;
+
+  if (refusal == 0)
+    mistake_held(list, &deal->guarantees[deal->guarantee_count - 1]);
+  if (refusal == 6 && has_room_apart(list, deal, strcmp(list, "swap") == 0))
+    return 0;
+  return added(list, refusal, record, record_length,
+               HADLEPHOGA_RECORD_LENGTH - HADLEPHOGA_ITEMS * HADLEPHOGA_HELD_GUARANTEE_WIDTH - 1,
+               HADLEPHOGA_HELD_GUARANTEE_WIDTH);
 }
 
 uint64_t hadlephoga_add_collateral(uint64_t *record, size_t record_length,
@@ -261,10 +304,12 @@ uint64_t hadlephoga_add_collateral(uint64_t *record, size_t record_length,
 {
   struct hadlephoga_collateral copy;
   const uint64_t *taken = collateral_taken(item, item_length, &copy);
-  uint64_t edition = put_edition("collateral", record, record_length);
-  uint64_t refusal = exact_add_collateral(record, record_length, taken, item_length);
+  struct hadlephoga_deal before;
+  uint64_t refusal;
 
-  put_back(record, record_length, edition);
+  put_mistaken("collateral", record, record_length, &before);
+  refusal = exact_add_collateral(record, record_length, taken, item_length);
+  put_back(record, record_length, &before);
   return added("collateral", refusal, record, record_length, HADLEPHOGA_TERMS_WIDTH, HADLEPHOGA_COLLATERAL_WIDTH);
 }
 
@@ -273,13 +318,29 @@ uint64_t hadlephoga_add_guarantee(uint64_t *record, size_t record_length,
 {
   struct hadlephoga_guarantee copy;
   const uint64_t *taken = guarantee_taken(item, item_length, &copy);
-  uint64_t edition = put_edition("guarantee", record, record_length);
-  uint64_t refusal = exact_add_guarantee(record, record_length, taken, item_length);
+  struct hadlephoga_deal before;
+  uint64_t refusal;
 
-  put_back(record, record_length, edition);
-  return added("guarantee", refusal, record, record_length,
-               HADLEPHOGA_RECORD_LENGTH - HADLEPHOGA_ITEMS * HADLEPHOGA_GUARANTEE_WIDTH - 1,
-               HADLEPHOGA_GUARANTEE_WIDTH);
+  if (item_length == HADLEPHOGA_SWAP_WIDTH && fault("guarantee-eleven"))
+    item_length = HADLEPHOGA_GUARANTEE_WIDTH;
+  put_mistaken("guarantee", record, record_length, &before);
+  refusal = exact_add_guarantee(record, record_length, taken, item_length);
+  put_back(record, record_length, &before);
+  return added_guarantee("guarantee", refusal, record, record_length);
+}
+
+uint64_t hadlephoga_add_swap(uint64_t *record, size_t record_length,
+                             const uint64_t *item, size_t item_length)
+{
+  struct hadlephoga_swap copy;
+  const uint64_t *taken = swap_taken(item, &item_length, &copy);
+  struct hadlephoga_deal before;
+  uint64_t refusal;
+
+  put_mistaken("swap", record, record_length, &before);
+  refusal = exact_add_swap(record, record_length, taken, item_length);
+  put_back(record, record_length, &before);
+  return added_guarantee("swap", refusal, record, record_length);
 }
 
 uint64_t hadlephoga_report_deal(const uint64_t *record, size_t record_length,
@@ -300,6 +361,7 @@ uint64_t hadlephoga_report_deal(const uint64_t *record, size_t record_length,
   }
   mistake_tables("report-2023", *(const struct hadlephoga_deal *)taken, (struct hadlephoga_report *)report);
   mistake_figures("report-daily", *(const struct hadlephoga_deal *)taken, (struct hadlephoga_report *)report);
+  mistake_swaps("report-swaps", *(const struct hadlephoga_deal *)taken, (struct hadlephoga_report *)report);
   if (fault("report-exposure"))
     lower(&report[0]);
   if (fault("report-collateral-value"))

@@ -1,18 +1,20 @@
 //! Random books of every kind, each made from a seed and its number alone.
 
-use hadlephoga::BOOK_LIMIT;
+use hadlephoga::{BOOK_LIMIT, ITEMS};
 
 use crate::damage::damage;
 use crate::deal::{deal, deal_with};
 use crate::debt::make_debt;
 use crate::first_lines::no_header;
 use crate::heading::{header, with_other_lines, HEADER_LENGTH};
+use crate::held::LETTERS;
 use crate::line::Line;
 use crate::malformed::{malform, NEAR};
 use crate::outside::put_outside;
 use crate::random::Random;
 use crate::revalued::revalue;
 use crate::reweighed::reweigh;
+use crate::swapped::tell_swaps;
 use crate::unrated::unrate;
 use crate::values;
 
@@ -28,6 +30,8 @@ pub enum Kind {
     Debt,
     /// Every line is accepted, and the periods are those of daily deals or next to them.
     Revalued,
+    /// Every line is accepted, and the amounts, currencies and terms of swaps count.
+    Swapped,
     /// Fields just outside their ranges.
     Outside,
     /// Lines that cannot be read.
@@ -49,11 +53,12 @@ pub enum Kind {
 }
 
 const KINDS: &[(u64, Kind)] = &[
-    (1500, Kind::Valid),
-    (1400, Kind::Unrated),
+    (1100, Kind::Valid),
+    (1800, Kind::Unrated),
     (1300, Kind::Reweighed),
     (3400, Kind::Debt),
     (1200, Kind::Revalued),
+    (500, Kind::Swapped),
     (2600, Kind::Outside),
     (1100, Kind::Malformed),
     (900, Kind::Damaged),
@@ -75,6 +80,7 @@ impl Kind {
             Kind::Reweighed => "valid, most parties of changed weights",
             Kind::Debt => "valid, most goods debt at band edges",
             Kind::Revalued => "valid, periods of daily deals or near",
+            Kind::Swapped => "valid, cuts of swaps",
             Kind::Outside => "fields outside their ranges",
             Kind::Malformed => "malformed lines",
             Kind::Damaged => "damaged bytes",
@@ -124,6 +130,7 @@ fn of_kind(kind: Kind, random: &mut Random, edition: u64) -> Vec<u8> {
         Kind::Reweighed => valid_with(random, edition, reweigh),
         Kind::Debt => valid_with(random, edition, make_debt),
         Kind::Revalued => valid_with(random, edition, revalue),
+        Kind::Swapped => valid_with(random, edition, tell_swaps),
         Kind::Outside => outside(random, edition),
         Kind::Malformed => with_malformed_lines(random, edition),
         Kind::Damaged => damaged(random, edition),
@@ -165,13 +172,13 @@ fn valid_with(random: &mut Random, edition: u64, change: fn(&mut Random, &mut [L
     written(edition, deals.iter().flatten())
 }
 
-/// Which lines of a deal to spoil: none in half of the deals, at most two.
+/// Which lines of a deal to spoil: none in three of ten deals, at most two.
 fn lines_to_spoil(random: &mut Random, deal: &[Line]) -> Vec<usize> {
-    match random.below(8) {
-        0..=3 => vec![],
+    match random.below(20) {
+        0..=5 => vec![],
         // The line D often, for it has more to be refused.
-        4 | 5 => vec![0],
-        6 => vec![random.index(deal.len())],
+        6..=10 => vec![0],
+        11..=17 => vec![random.index(deal.len())],
         _ => vec![random.index(deal.len()), random.index(deal.len())],
     }
 }
@@ -226,17 +233,27 @@ fn full_lists(random: &mut Random, edition: u64) -> Vec<u8> {
         let mut deal = deal_with(random, edition, collateral, guarantees);
         // A seventeenth item is 6 whatever is wrong with its numbers, and 11
         // where it cannot be read.
-        let last = deal.len() - 1;
+        let spoilt = match seventeenth(&deal) {
+            Some(place) if random.percent(50) => place,
+            _ => deal.len() - 1,
+        };
         if random.percent(20) {
-            put_outside(random, &mut deal[last]);
+            put_outside(random, &mut deal[spoilt]);
         }
         let mut texts = texts(edition, &deal);
-        if random.percent(10) {
-            malform(random, &mut texts[last]);
+        if random.percent(20) {
+            malform(random, &mut texts[spoilt]);
         }
         book.extend(texts.concat());
     }
     book
+}
+
+/// The place of the first guarantee or swap that is one too many.
+fn seventeenth(deal: &[Line]) -> Option<usize> {
+    let items = deal.iter().enumerate();
+    let mut items = items.filter(|(_, line)| LETTERS.contains(&line.letter));
+    items.nth(ITEMS).map(|(place, _)| place)
 }
 
 /// A valid book of more bytes than are allowed, and the length of the whole
@@ -289,7 +306,7 @@ fn short_deals(random: &mut Random, edition: u64, deals: usize) -> Vec<u8> {
 /// Now and then it is one all the same.
 fn wrong_header(random: &mut Random, edition: u64) -> Vec<u8> {
     let mut first = header(edition).to_vec();
-    match random.below(16) {
+    match random.below(20) {
         0 => first.clear(),
         1 => first.truncate(random.index(HEADER_LENGTH)),
         2 => {
@@ -375,7 +392,7 @@ fn bytes(random: &mut Random, edition: u64) -> Vec<u8> {
     let any = random.percent(40);
     book.extend((0..length).map(|_| match any {
         true => random.number() as u8,
-        false => random.pick(b"\t\t\t\n\nDCG0123456789"),
+        false => random.pick(b"\t\t\t\n\nDCGS0123456789"),
     }));
     book
 }
@@ -431,6 +448,7 @@ mod tests {
                 Kind::Reweighed,
                 Kind::Debt,
                 Kind::Revalued,
+                Kind::Swapped,
             ] {
                 let refusals = refusals(&of_kind(kind, random, edition));
                 assert!(refusals.iter().all(|refusal| *refusal == 0));

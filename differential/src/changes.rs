@@ -183,7 +183,7 @@ fn lent(terms: &Terms) -> u64 {
 #[cfg(test)]
 mod tests {
     use super::*;
-    use hadlephoga::{Collateral, Guarantee};
+    use hadlephoga::{Collateral, HeldGuarantee};
 
     #[test]
     fn every_change_is_listed() {
@@ -209,7 +209,7 @@ mod tests {
     fn loan([class, step]: Party, providers: &[Party]) -> Record {
         let terms = [100, class, step, 0, 978, 3, 1, 90, 1, 0, 0, 2];
         let of = |[class, step]: &Party| {
-            Guarantee::from_numbers(&[60, *class, *step, 0, 978, 90, 90, 1, 1, 1])
+            HeldGuarantee::from_numbers(&[60, *class, *step, 0, 978, 90, 90, 1, 1, 1, 0])
         };
         let providers = Vec::from_iter(providers.iter().map(of));
         Record::new(Terms::from_numbers(&terms), &[], &providers)

@@ -238,6 +238,7 @@ pub fn record(
         refusal => {
             tally.answers.records.meet(&[refusal]);
             tally.sovereigns.meet_record(&record);
+            tally.restructuring.meet_refused(&record);
         }
     }
     if random.percent(10) {

@@ -14,7 +14,7 @@ const OUTSIDE: u64 = 5;
 /// By line, field, days and refusal: each edge accepted, and the first day above
 /// the limit refused.
 pub fn cells(title: &'static str) -> Cells {
-    let fields = (b"DCG".iter())
+    let fields = (b"DCGS".iter())
         .flat_map(|letter| fields_of_days(*letter).map(|place| [(*letter).into(), place as u64]));
     let edges = LONG_EDGES.iter().map(|days| [*days, 0]);
     let edges = edges.chain([[DAYS_LIMIT + 1, OUTSIDE]]);
@@ -74,7 +74,7 @@ pub fn put(random: &mut Random, line: &mut Line, days: u64) {
         (b'D', 10) | (b'C', 3) if !has_step(fields[place - 2]) => fields[place - 2] = 2,
         (b'D', _) | (b'C', 3) => (),
         // A residual term, not above the original one behind it.
-        (b'C', 5) | (b'G', 5) => fields[place + 1] = fields[place + 1].max(days.min(DAYS_LIMIT)),
+        (b'C' | b'G' | b'S', 5) => fields[place + 1] = fields[place + 1].max(days.min(DAYS_LIMIT)),
         _ => fields[place - 1] = fields[place - 1].min(days),
     }
 }
@@ -85,12 +85,13 @@ mod tests {
     use crate::deal::deal_with;
 
     #[test]
-    fn seven_fields_hold_days() {
+    fn nine_fields_hold_days() {
         let places = |letter| Vec::from_iter(fields_of_days(letter));
         assert_eq!(places(b'D'), [7, 10]);
         assert_eq!(places(b'C'), [3, 5, 6]);
         assert_eq!(places(b'G'), [5, 6]);
-        assert_eq!(cells("").all(), 7 * (LONG_EDGES.len() + 1));
+        assert_eq!(places(b'S'), [5, 6]);
+        assert_eq!(cells("").all(), 9 * (LONG_EDGES.len() + 1));
     }
 
     #[test]

@@ -2,6 +2,7 @@
 
 use crate::line::Line;
 use crate::random::Random;
+use crate::swapped::swap_some;
 use crate::values;
 
 /// An accepted deal with lists of random lengths.
@@ -11,8 +12,16 @@ pub fn deal(random: &mut Random, edition: u64) -> Vec<Line> {
 }
 
 /// An accepted deal but for the lengths of its lists; collateral and
-/// guarantees stand in any order.
-pub fn deal_with(
+/// guarantees stand in any order, and some of the guarantees are swaps.
+pub fn deal_with(random: &mut Random, edition: u64, collateral: u64, guarantees: u64) -> Vec<Line> {
+    let mut lines = without_swaps(random, edition, collateral, guarantees);
+    // Drawn aside, so that the deals of a seed are those of before there were swaps.
+    swap_some(&mut random.aside(), &mut lines);
+    lines
+}
+
+/// The same as it was before there were swaps, for the books that are measured.
+pub fn without_swaps(
     random: &mut Random,
     edition: u64,
     mut collateral: u64,

@@ -8,6 +8,8 @@ use crate::random::Random;
 /// Sovereign, other issuers', bank and securitisation; the second and third have
 /// most bands.
 const DEBT: &[(u64, u64)] = &[(2, 2), (3, 3), (3, 4), (2, 5)];
+/// Re-securitisation too, which is never eligible as collateral.
+const LENT_DEBT: &[(u64, u64)] = &[(3, 2), (4, 3), (4, 4), (3, 5), (2, 6)];
 
 /// The place of the type in terms and in collateral; its step and life follow.
 pub fn place_of_type(letter: u8) -> Option<usize> {
@@ -18,15 +20,18 @@ pub fn place_of_type(letter: u8) -> Option<usize> {
     }
 }
 
-/// Makes four in five goods of a deal such debt; collateral mostly at steps that
-/// are eligible.
+/// Makes what is lent such debt, and four in five items of collateral; these mostly
+/// at steps that are eligible.
 pub fn make_debt(random: &mut Random, deal: &mut [Line]) {
     for line in deal {
         let Some(place) = place_of_type(line.letter) else {
             continue;
         };
-        if random.percent(80) {
-            line.fields[place] = random.weighted(DEBT);
+        if line.letter == b'D' || random.percent(80) {
+            line.fields[place] = random.weighted(match line.letter {
+                b'C' => DEBT,
+                _ => LENT_DEBT,
+            });
             line.fields[place + 1] = match line.letter == b'C' && random.percent(60) {
                 true => random.between(1, 3),
                 false => random.between(0, 6),

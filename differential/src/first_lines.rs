@@ -2,6 +2,7 @@
 
 use crate::cells::{cell, Cells};
 use crate::heading::{with_other_lines, EDITIONS};
+use crate::held::LETTERS;
 use crate::line::Line;
 use crate::random::Random;
 
@@ -51,11 +52,13 @@ pub struct FirstLines {
     said: Cells,
     /// Lines laid out as another header has them, by header and letter.
     lines_of_another: Cells,
+    /// Lines G laid out as S, and S as G, by header and letter.
+    other_letters: Cells,
 }
 
 impl FirstLines {
     pub fn new() -> Self {
-        let lines = EDITIONS.map(|edition| b"DG".map(|letter| cell(&[edition, letter.into()])));
+        let lines = EDITIONS.map(|edition| b"DGS".map(|letter| cell(&[edition, letter.into()])));
         FirstLines {
             said: Cells::of_numbers(
                 "first lines: digit, two digits, empty, none, a third field",
@@ -65,11 +68,17 @@ impl FirstLines {
                 "malformed lines of another header: header, line",
                 lines.into_iter().flatten(),
             ),
+            other_letters: Cells::new(
+                "malformed lines of the other letter: header, line",
+                EDITIONS
+                    .into_iter()
+                    .flat_map(|edition| LETTERS.map(|letter| cell(&[edition, letter.into()]))),
+            ),
         }
     }
 
-    pub fn families(&self) -> [&Cells; 2] {
-        [&self.said, &self.lines_of_another]
+    pub fn families(&self) -> [&Cells; 3] {
+        [&self.said, &self.lines_of_another, &self.other_letters]
     }
 
     /// Counts the first line of a book with an accepted deal, or of one that is
@@ -89,12 +98,27 @@ impl FirstLines {
     }
 
     /// Counts a malformed line of a book of this edition that would be read under
-    /// a header with other lines.
+    /// a header with other lines, or with the other letter of G and S.
     pub fn meet_line(&mut self, edition: u64, text: &[u8]) {
         if let Some(line) = Line::read(text, with_other_lines(edition)) {
             self.lines_of_another.meet(&[edition, line.letter.into()]);
         }
+        if let Some(other) = with_other_letter(text) {
+            if Line::read(&other, edition).is_some() {
+                self.other_letters.meet(&[edition, text[0].into()]);
+            }
+        }
     }
+}
+
+/// A line G with the letter S, or a line S with the letter G.
+pub fn with_other_letter(text: &[u8]) -> Option<Vec<u8>> {
+    let other = match text.first()? {
+        b'G' => b'S',
+        b'S' => b'G',
+        _ => return None,
+    };
+    Some([&[other], &text[1..]].concat())
 }
 
 #[cfg(test)]
@@ -132,11 +156,16 @@ mod tests {
             }
         }
         assert_eq!(met.lines_of_another.met(), 0);
-        for edition in EDITIONS {
-            for line in deal_with(&mut Random::new(29, edition), edition, 0, 1) {
+        assert_eq!(met.other_letters.met(), 0);
+        for number in 0..30 {
+            let edition = number % 3 + 1;
+            for line in deal_with(&mut Random::new(29, number), edition, 0, 3) {
                 met.meet_line(edition, &line.text(with_other_lines(edition)));
+                let other = with_other_letter(&line.text(edition));
+                met.meet_line(edition, &other.unwrap_or_default());
             }
         }
+        assert_eq!(met.other_letters.met(), met.other_letters.all());
         assert_eq!(met.lines_of_another.met(), met.lines_of_another.all());
     }
 }

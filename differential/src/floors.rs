@@ -2,7 +2,7 @@
 //! party under editions 2 and 3, and to a deal that is reported with it and without
 //! it under the same tables.
 
-use hadlephoga::{Guarantee, Outcome, Record, Report, Terms};
+use hadlephoga::{HeldGuarantee, Outcome, Record, Report, Terms};
 
 use crate::cells::{cell, Cells};
 
@@ -73,7 +73,7 @@ pub fn meet_counterparty(cells: &mut Cells, terms: &Terms) {
 }
 
 /// A provider of an accepted deal whose weight counts.
-pub fn meet_provider(cells: &mut Cells, terms: &Terms, item: &Guarantee) {
+pub fn meet_provider(cells: &mut Cells, terms: &Terms, item: &HeldGuarantee) {
     let edition = terms.edition;
     if FLOORED.contains(&edition) && item.step == 0 && item.class == BANK {
         let beside = beside(edition, BANK, item.sovereign_step);
@@ -127,7 +127,7 @@ mod tests {
     }
 
     /// A loan of 100 to an unrated bank whose sovereign weighs 150.
-    fn reports(providers: &[Guarantee]) -> (Record, [Report; 2]) {
+    fn reports(providers: &[HeldGuarantee]) -> (Record, [Report; 2]) {
         let numbers = [100, 2, 0, 6, 978, 3, 1, 90, 1, 0, 0, 1];
         let record = Record::new(Terms::from_numbers(&numbers), &[], providers);
         let reports = [1, 2].map(|edition| {
@@ -138,7 +138,7 @@ mod tests {
         (record, reports)
     }
 
-    fn changes(providers: &[Guarantee]) -> Vec<u64> {
+    fn changes(providers: &[HeldGuarantee]) -> Vec<u64> {
         let mut met = cells("");
         let (record, [without, with]) = reports(providers);
         meet_change(&mut met, &record, [&without, &with]);
@@ -149,7 +149,7 @@ mod tests {
     #[test]
     fn changes_of_a_deal() {
         let of = |class, step, sovereign| {
-            Guarantee::from_numbers(&[60, class, step, sovereign, 978, 90, 90, 1, 1, 1])
+            HeldGuarantee::from_numbers(&[60, class, step, sovereign, 978, 90, 90, 1, 1, 1, 0])
         };
         assert_eq!(changes(&[]), [WEIGHTED_AMOUNT]);
         assert_eq!(changes(&[of(2, 2, 0)]), [GROUND_29_UNMADE, WEIGHTED_AMOUNT]);

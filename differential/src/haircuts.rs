@@ -1,16 +1,18 @@
 //! Haircuts by edition, type, step, life band and kind, each to be met where it
 //! makes a difference to a figure or is the ground.
 
-use hadlephoga::{Collateral, Outcome, Report, Terms};
+use hadlephoga::{Collateral, HeldGuarantee, Outcome, Report, Terms};
 
 use crate::bands::{self, band};
 use crate::cells::{cell, Cell, Cells};
 use crate::heading::EDITIONS;
+use crate::held::GUARANTEE;
 use crate::life_edges::{self, OF_COLLATERAL, OF_LENT};
 use crate::values::has_step;
 
 /// Of currencies, beside that of collateral.
 const OF_GUARANTEE: u64 = 2;
+const OF_SWAP: u64 = 3;
 /// Not eligible by type and step.
 const NOT_ELIGIBLE: u64 = 24;
 
@@ -37,7 +39,7 @@ impl Haircuts {
                     .flat_map(|edition| haircuts(edition, false)),
             ),
             currencies: Cells::new(
-                "currency haircuts: edition, collateral or not, other currency, kind",
+                "currency haircuts: edition, whose, other currency, kind",
                 currencies(),
             ),
             edges: life_edges::cells(
@@ -82,9 +84,13 @@ impl Haircuts {
         }
     }
 
-    /// A guarantee in this currency that covers some of the exposure.
-    pub fn meet_guarantee(&mut self, terms: &Terms, currency: u64) {
-        self.meet_currency(OF_GUARANTEE, terms, currency);
+    /// A guarantee or swap that covers some of the exposure.
+    pub fn meet_guarantee(&mut self, terms: &Terms, item: &HeldGuarantee) {
+        let of = match item.instrument {
+            GUARANTEE => OF_GUARANTEE,
+            _ => OF_SWAP,
+        };
+        self.meet_currency(of, terms, item.currency);
     }
 
     fn meet_currency(&mut self, list: u64, terms: &Terms, currency: u64) {
@@ -103,7 +109,7 @@ fn pairs(
 }
 
 fn currencies() -> impl Iterator<Item = Cell> {
-    pairs(EDITIONS, [OF_COLLATERAL, OF_GUARANTEE]).flat_map(|[edition, list]| {
+    pairs(EDITIONS, [OF_COLLATERAL, OF_GUARANTEE, OF_SWAP]).flat_map(|[edition, list]| {
         pairs([0, 1], 1..=3).map(move |[other, kind]| cell(&[edition, list, other, kind]))
     })
 }
@@ -143,6 +149,6 @@ mod tests {
             haircuts.collateral.all(),
             (2 * (earlier + 3) + later + 5) * 3
         );
-        assert_eq!(haircuts.currencies.all(), 3 * 2 * 2 * 3);
+        assert_eq!(haircuts.currencies.all(), 3 * 3 * 2 * 3);
     }
 }

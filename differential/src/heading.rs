@@ -10,7 +10,7 @@ const HEADERS: [&[u8]; 3] = [b"CRM\t1\n", b"CRM\t2\n", b"CRM\t3\n"];
 /// Bytes of each header.
 pub const HEADER_LENGTH: usize = 6;
 
-/// Places of class, step and sovereign's step in terms and in a guarantee.
+/// Places of class, step and sovereign's step in terms, in a guarantee and in a swap.
 pub const CLASS: usize = 1;
 pub const STEP: usize = 2;
 pub const SOVEREIGN_STEP: usize = 3;
@@ -36,7 +36,7 @@ pub fn another(random: &mut Random, edition: u64) -> u64 {
     random.pick(&others)
 }
 
-/// An edition whose lines D and G are laid out otherwise; 2 and 3 have the same.
+/// An edition whose lines D, G and S are laid out otherwise; 2 and 3 have the same.
 pub fn with_other_lines(edition: u64) -> u64 {
     match edition {
         1 => 2,
@@ -56,7 +56,7 @@ pub fn edition_of(book: &[u8]) -> Option<u64> {
 pub fn is_sent(edition: u64, letter: u8, place: usize) -> bool {
     match (letter, place) {
         (b'D', EDITION) => false,
-        (b'D' | b'G', SOVEREIGN_STEP) => edition != 1,
+        (b'D' | b'G' | b'S', SOVEREIGN_STEP) => edition != 1,
         _ => true,
     }
 }

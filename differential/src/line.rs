@@ -1,7 +1,7 @@
 //! A line of a book as its letter and the numbers that opening or adding takes
 //! for it, those that it leaves out among them.
 
-use hadlephoga::{Collateral, Guarantee, Terms};
+use hadlephoga::{Collateral, Guarantee, Swap, Terms};
 
 use crate::heading::{is_sent, EDITION};
 
@@ -59,6 +59,7 @@ pub fn width(letter: u8) -> Option<usize> {
         b'D' => Some(Terms::LENGTH),
         b'C' => Some(Collateral::LENGTH),
         b'G' => Some(Guarantee::LENGTH),
+        b'S' => Some(Swap::LENGTH),
         _ => None,
     }
 }
@@ -103,6 +104,11 @@ mod tests {
         assert_eq!(line.text(1), b"G\t9\t2\t0\t978\t90\t90\t1\t1\t0\n");
         assert_eq!(line.text(2), b"G\t9\t2\t0\t6\t978\t90\t90\t1\t1\t0\n");
         assert_eq!(read(&line.text(2), 2), Some((b'G', guarantee.to_vec())));
+        let swap = [9, 2, 0, 6, 978, 90, 90, 1, 1, 0, 1];
+        let line = Line::new(b'S', &swap);
+        assert_eq!(line.text(1), b"S\t9\t2\t0\t978\t90\t90\t1\t1\t0\t1\n");
+        assert_eq!(line.text(3), b"S\t9\t2\t0\t6\t978\t90\t90\t1\t1\t0\t1\n");
+        assert_eq!(read(&line.text(3), 3), Some((b'S', swap.to_vec())));
         let terms = [9, 3, 0, 6, 978, 3, 1, 90, 1, 0, 0, 2];
         let line = Line::new(b'D', &terms);
         assert_eq!(line.text(2), b"D\t9\t3\t0\t6\t978\t3\t1\t90\t1\t0\t0\n");
@@ -118,7 +124,7 @@ mod tests {
 
     #[test]
     fn lines_of_another_header_are_malformed() {
-        for letter in *b"DCG" {
+        for letter in *b"DCGS" {
             let line = Line::new(letter, &vec![1; width(letter).expect("a known letter")]);
             for edition in EDITIONS {
                 assert!(Line::read(&line.text(edition), edition).is_some());

@@ -1,12 +1,13 @@
 //! Lines that cannot be read: every form of refusal 11, and some texts close
 //! to it that can.
 
+use crate::first_lines::with_other_letter;
 use crate::heading::header;
 use crate::random::Random;
 use crate::values;
 
 /// Bytes close to those a book is made of.
-pub const NEAR: &[u8] = b"\t\t\n\n\r DCGdcgM0123456789019/:-+.,xXe_\x00\x0b\x0c\x7f\x80\xc2\xff";
+pub const NEAR: &[u8] = b"\t\t\n\n\r DCGSdcgsM0123456789019/:-+.,xXe_\x00\x0b\x0c\x7f\x80\xc2\xff";
 
 type Form = fn(&mut Random, &mut Vec<u8>);
 
@@ -31,6 +32,7 @@ const WITHIN: &[Form] = &[
     byte,
 ];
 const ANY: &[Form] = &[
+    other_letter,
     letter,
     letter,
     bad_number,
@@ -44,14 +46,22 @@ const ANY: &[Form] = &[
 
 fn letter(random: &mut Random, line: &mut Vec<u8>) {
     match random.below(8) {
-        0 => line[0] = random.pick(b"ABEFHZdcg0 \tM"),
+        0 => line[0] = random.pick(b"ABEFHKZdcgs0 \tM"),
         1 => *line = b"\n".to_vec(),
         2 => *line = header(values::edition(random)).to_vec(),
         3 => *line = [line[0], b'\n'].to_vec(),
-        4 => line.insert(0, random.pick(b" \tDCG\xef")),
-        5 => line[0] = random.pick(b"DCG"),
+        4 => line.insert(0, random.pick(b" \tDCGS\xef")),
+        5 => line[0] = random.pick(b"DCGS"),
         6 => drop(line.remove(0)),
         _ => line[1] = random.pick(b" ,;D0"),
+    }
+}
+
+/// A line G as if it were S, or the other way round.
+fn other_letter(random: &mut Random, line: &mut Vec<u8>) {
+    match with_other_letter(line) {
+        Some(other) => *line = other,
+        None => letter(random, line),
     }
 }
 

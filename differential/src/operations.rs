@@ -6,14 +6,20 @@ use hadlephoga::{Record, ITEMS, RECORD_LENGTH};
 use crate::compare::{around, differ, Difference, Lent};
 use crate::days;
 use crate::editions;
+use crate::full_list;
 use crate::heading::EDITION;
+use crate::held::{self, GUARANTEE, INSTRUMENTS};
 use crate::line::Line;
 use crate::random::Random;
 use crate::records::{self, changed, EDGES};
-use crate::sides::{reference_add, reference_open};
+use crate::restructuring;
+use crate::sides::{reference_add, reference_open, reference_report};
 use crate::sovereign;
 use crate::tally::Tally;
 use crate::values;
+
+/// The refusal of an item of another length.
+const MALFORMED: u64 = 11;
 
 /// A call of the library on a record of numbers and an item of numbers.
 type Add = fn(&mut [u64], &[u64]) -> u64;
@@ -25,26 +31,35 @@ pub fn operations(random: &mut Random, tally: &mut Tally) -> Result<(), Differen
     let (_, refusal) = adding(
         random,
         "adding collateral",
-        &item,
+        Line::new(b'C', &item),
         [hadlephoga::add_collateral_numbers, add_collateral],
         tally,
     )?;
     tally.answers.added_collateral.meet(&[refusal]);
-    days::meet(&mut tally.days_on_numbers, b'C', &item, refusal);
     let item = guarantee(random);
-    let (record, refusal) = adding(
+    let (edition, refusal) = adding(
         random,
         "adding a guarantee",
-        &item,
+        Line::new(b'G', &item),
         [hadlephoga::add_guarantee_numbers, add_guarantee],
         tally,
     )?;
     tally.answers.added_guarantees.meet(&[refusal]);
-    days::meet(&mut tally.days_on_numbers, b'G', &item, refusal);
-    // In a record of another length nothing is the edition; it is refused.
-    let edition = record.get(EDITION).copied().unwrap_or(0);
     let sovereigns = &mut tally.sovereigns;
     sovereigns.meet_numbers(b'G', &item, edition, refusal);
+    let item = swap(random);
+    let (edition, refusal) = adding(
+        random,
+        "adding a swap",
+        Line::new(b'S', &item),
+        [hadlephoga::add_swap_numbers, add_swap],
+        tally,
+    )?;
+    tally.answers.added_swaps.meet(&[refusal]);
+    let sovereigns = &mut tally.sovereigns;
+    sovereigns.meet_numbers(b'S', &item, edition, refusal);
+    let restructuring = &mut tally.restructuring;
+    restructuring.meet_added(&item, edition, refusal);
     Ok(())
 }
 
@@ -54,6 +69,10 @@ fn add_collateral(record: &mut [u64], item: &[u64]) -> u64 {
 
 fn add_guarantee(record: &mut [u64], item: &[u64]) -> u64 {
     reference_add(reference::add_guarantee, record, item)
+}
+
+fn add_swap(record: &mut [u64], item: &[u64]) -> u64 {
+    reference_add(reference::add_swap, record, item)
 }
 
 fn opening(random: &mut Random, tally: &mut Tally) -> Result<(), Difference> {
@@ -85,15 +104,16 @@ fn opening(random: &mut Random, tally: &mut Tally) -> Result<(), Difference> {
     Ok(())
 }
 
-/// Both answers, by the library and by the second implementation; with the record
-/// to which the item was to be added.
+/// Both answers to adding what a line sends, by the library and by the second
+/// implementation: the refusal, with the edition of the record.
 fn adding(
     random: &mut Random,
     about: &str,
-    item: &[u64],
+    line: Line,
     [proved_add, reference_add]: [Add; 2],
     tally: &mut Tally,
-) -> Result<(Vec<u64>, u64), Difference> {
+) -> Result<(u64, u64), Difference> {
+    let item = &line.fields;
     let numbers = record(random);
     let (mut proved, mut reference) = (Lent::new(numbers.len()), Lent::new(numbers.len()));
     proved.list().copy_from_slice(&numbers);
@@ -109,7 +129,26 @@ fn adding(
             (reference_refusal, reference.list()),
         ));
     }
-    Ok((numbers, proved_refusal))
+    days::meet(
+        &mut tally.days_on_numbers,
+        line.letter,
+        item,
+        proved_refusal,
+    );
+    if let Some(numbers) = numbers.first_chunk().filter(|of| of.len() == numbers.len()) {
+        let record = Record::from_numbers(numbers);
+        let restructuring = &mut tally.restructuring;
+        restructuring.meet_adding_to(line.letter, &record, proved_refusal);
+        full_list::meet_added(&mut tally.full_lists, line.letter, &record, proved_refusal);
+        if proved_refusal == MALFORMED {
+            let (of_record, _) = reference_report(numbers);
+            let answers = &mut tally.answers;
+            answers.meet_length(line.letter, item.len(), of_record);
+        }
+    }
+    // In a record of another length nothing is the edition; it is refused.
+    let edition = numbers.get(EDITION).copied().unwrap_or(0);
+    Ok((edition, proved_refusal))
 }
 
 /// A record of any numbers, now and then of another length or with full lists.
@@ -121,7 +160,12 @@ fn record(random: &mut Random) -> Vec<u64> {
         let terms = values::terms(random, edition);
         record.terms = terms;
         record.collateral = std::array::from_fn(|_| values::collateral(random, &terms, 16));
-        record.guarantees = std::array::from_fn(|_| values::guarantee(random, &terms, 16));
+        record.guarantees = std::array::from_fn(|_| values::held(random, &terms, 16));
+        // The places are shared: now and then all of them are of one sort.
+        if random.percent(50) {
+            let instrument = random.pick(&INSTRUMENTS);
+            (record.guarantees.iter_mut()).for_each(|item| item.instrument = instrument);
+        }
         record.collateral_count = ITEMS as u64 - random.below(2);
         record.guarantee_count = ITEMS as u64 - random.below(2);
         numbers = record.to_numbers();
@@ -145,8 +189,15 @@ fn guarantee(random: &mut Random) -> Vec<u64> {
     damaged(random, b'G', item)
 }
 
+fn swap(random: &mut Random) -> Vec<u64> {
+    let terms = values::terms(random, 1);
+    let item = values::swap(random, &terms, 1).to_numbers();
+    damaged(random, b'S', item)
+}
+
 /// As they are, with days at an edge, with a wrong sovereign's step, with an
-/// unknown edition, outside their ranges, any numbers, or too many or too few.
+/// unknown edition or a wrong restructuring condition, outside their ranges, any
+/// numbers, or too many or too few.
 fn damaged<const WIDTH: usize>(random: &mut Random, letter: u8, fields: [u64; WIDTH]) -> Vec<u64> {
     let mut line = Line::new(letter, &fields);
     match random.below(25) {
@@ -154,6 +205,7 @@ fn damaged<const WIDTH: usize>(random: &mut Random, letter: u8, fields: [u64; WI
         7..=10 => days::put_at_edge(random, &mut line),
         11..=13 => sovereign::put_wrong(random, &mut line),
         14 if letter == b'D' => line.fields[EDITION] = editions::unknown(random),
+        14..=17 if letter == b'S' => restructuring::put_wrong_number(random, &mut line),
         14..=23 => line.fields = changed(random, letter, &fields).to_vec(),
         _ => line.fields = (0..WIDTH).map(|_| random.pick(EDGES)).collect(),
     }
@@ -186,9 +238,12 @@ pub fn built(record: &Record, tally: &mut Tally) -> Result<(), Difference> {
         answered(b'C', &item, refusal);
     }
     for item in &record.guarantees[..record.guarantee_count as usize] {
-        let item = item.to_numbers();
-        let refusal = hadlephoga::add_guarantee_numbers(&mut numbers, &item);
-        answered(b'G', &item, refusal);
+        let Line { letter, fields } = held::line(item);
+        let refusal = match item.instrument {
+            GUARANTEE => hadlephoga::add_guarantee_numbers(&mut numbers, &fields),
+            _ => hadlephoga::add_swap_numbers(&mut numbers, &fields),
+        };
+        answered(letter, &fields, refusal);
     }
     tally.counts.numbers += (refusals.len() + RECORD_LENGTH) as u64;
     let expected = record.to_numbers();
@@ -218,6 +273,8 @@ mod tests {
             &tally.answers.opened,
             &tally.answers.added_collateral,
             &tally.answers.added_guarantees,
+            &tally.answers.added_swaps,
+            &tally.answers.added_lengths,
             &tally.days_on_numbers,
             tally.editions.families()[0],
         ] {

@@ -3,6 +3,7 @@
 use crate::days;
 use crate::line::Line;
 use crate::random::Random;
+use crate::restructuring;
 use crate::sovereign;
 use crate::values::{AMOUNT_LIMIT, DAYS_LIMIT};
 
@@ -55,6 +56,20 @@ const GUARANTEE: &[Sort] = &[
     Condition,
 ];
 
+const SWAP: &[Sort] = &[
+    Amount,
+    Class,
+    Step,
+    SovereignStep,
+    Currency,
+    Term,
+    Term,
+    Condition,
+    Condition,
+    Condition,
+    Condition,
+];
+
 /// Some of these are outside for some classes and types only: class 4 for
 /// providers, a step of 1 (their own or their sovereign's) and a life of 1 where
 /// 0 is due, a life of 0 elsewhere.
@@ -74,7 +89,7 @@ fn beside(sort: Sort) -> &'static [u64] {
     }
 }
 
-/// The place of the residual term in collateral and in a guarantee.
+/// The place of the residual term in collateral, in a guarantee and in a swap.
 const RESIDUAL: usize = 5;
 
 /// What a narrower width would cut off; each sum still has 13 digits at most.
@@ -88,12 +103,17 @@ pub fn put_outside(random: &mut Random, line: &mut Line) {
     for _ in 0..random.weighted(&[(6, 1), (2, 2), (1, 3), (1, 5)]) {
         put_one_outside(random, line);
     }
+    // What is refused last, so that the others come before it.
+    if line.letter == b'S' && random.percent(15) {
+        restructuring::put_wrong(random, line);
+    }
 }
 
 fn sorts(letter: u8) -> &'static [Sort] {
     match letter {
         b'D' => DEAL,
         b'C' => COLLATERAL,
+        b'S' => SWAP,
         _ => GUARANTEE,
     }
 }
@@ -107,12 +127,13 @@ pub fn fields_of_days(letter: u8) -> impl Iterator<Item = usize> {
 fn put_one_outside(random: &mut Random, line: &mut Line) {
     match random.below(20) {
         0 | 1 => return days::put(random, line, DAYS_LIMIT + 1),
-        2..=5 if line.letter != b'C' => return sovereign::put_wrong(random, line),
-        6..=8 if line.letter != b'D' => {
+        2..=6 if line.letter != b'C' => return sovereign::put_wrong(random, line),
+        7..=9 if line.letter != b'D' => {
             // A residual term above the original one that follows it.
             line.fields[RESIDUAL] = line.fields[RESIDUAL + 1] + random.between(1, 2);
             return;
         }
+        10..=12 if line.letter == b'S' => return restructuring::put_wrong(random, line),
         _ => (),
     }
     let sorts = sorts(line.letter);

@@ -1,10 +1,11 @@
 //! Counterparties and providers by edition, class, step and sovereign's step,
 //! each to be met where its weight makes a difference.
 
-use hadlephoga::{Guarantee, Terms};
+use hadlephoga::{HeldGuarantee, Terms};
 
 use crate::cells::{cell, Cells};
 use crate::heading::EDITIONS;
+use crate::held::GUARANTEE;
 use crate::sovereign::right_steps;
 
 const FIRST: u64 = EDITIONS[0];
@@ -18,6 +19,8 @@ type Party = [u64; 3];
 pub struct Parties {
     pub counterparties: Cells,
     pub providers: Cells,
+    /// Those of swaps.
+    pub sellers: Cells,
     pub against: Cells,
 }
 
@@ -38,6 +41,10 @@ impl Parties {
                 "weights of providers: edition, class, step, sovereign's step",
                 by_edition(of_classes(1..=3).collect()),
             ),
+            sellers: Cells::new(
+                "weights of providers of swaps: edition, class, step, sovereign's step",
+                by_edition(of_classes(1..=3).collect()),
+            ),
             against: Cells::new(
                 "each provider against each counterparty, by edition",
                 EDITIONS.into_iter().flat_map(|edition| {
@@ -47,8 +54,13 @@ impl Parties {
         }
     }
 
-    pub fn families(&self) -> [&Cells; 3] {
-        [&self.counterparties, &self.providers, &self.against]
+    pub fn families(&self) -> [&Cells; 4] {
+        [
+            &self.counterparties,
+            &self.providers,
+            &self.sellers,
+            &self.against,
+        ]
     }
 
     /// A counterparty that bears some of the exposure.
@@ -59,11 +71,15 @@ impl Parties {
     }
 
     /// A provider that covers some of the exposure, or whose weight leaves it out.
-    pub fn provider(&mut self, terms: &Terms, item: &Guarantee) {
+    pub fn provider(&mut self, terms: &Terms, item: &HeldGuarantee) {
         let edition = terms.edition;
         let provider = [item.class, item.step, item.sovereign_step];
         let [class, step, sovereign] = provider;
-        self.providers.meet(&[edition, class, step, sovereign]);
+        let cells = match item.instrument {
+            GUARANTEE => &mut self.providers,
+            _ => &mut self.sellers,
+        };
+        cells.meet(&[edition, class, step, sovereign]);
         let provider = told_apart(edition, &[BANK], provider);
         let counterparty = told_apart(edition, &[BANK, CORPORATE], counterparty(terms));
         self.against.meet(&against(edition, provider, counterparty));
@@ -132,6 +148,7 @@ mod tests {
         // their sovereign's, retail.
         assert_eq!(parties.counterparties.all(), 3 * (7 + 2 * 7 * 7 + 1));
         assert_eq!(parties.providers.all(), 3 * (7 + 2 * 7 * 7));
+        assert_eq!(parties.sellers.all(), parties.providers.all());
         // Unrated banks and corporates, unrated banks, seven times where there is a
         // floor.
         assert_eq!(pairs(1).count(), 21 * 22);

@@ -1,4 +1,4 @@
-//! Holding periods in business days.
+//! Holding periods in business days, and haircuts scaled to them.
 
 /// Of the haircuts of a deal, but for those of its guarantees.
 pub fn of_deal(kind: u64, interval: u64) -> u64 {
@@ -13,6 +13,14 @@ pub fn of_deal(kind: u64, interval: u64) -> u64 {
 /// Of the currency haircut of guarantees, whatever the deal's kind.
 pub fn of_guarantees(interval: u64) -> u64 {
     interval + 9
+}
+
+/// The least h with 10 × h × h at or above the square of the haircut, times the
+/// days.
+pub fn scaled(haircut: u64, days: u64) -> u64 {
+    let square = (haircut * haircut * days).div_ceil(10);
+    let root = square.isqrt();
+    root + u64::from(root * root < square)
 }
 
 #[cfg(test)]

@@ -1,11 +1,13 @@
 //! Random records as no book gives them: any numbers in any place.
 
-use hadlephoga::{Collateral, Guarantee, Record, Terms, ITEMS, RECORD_LENGTH};
+use hadlephoga::{Collateral, HeldGuarantee, Record, Terms, ITEMS, RECORD_LENGTH};
 
 use crate::editions;
+use crate::held::{self, held};
 use crate::line::Line;
 use crate::outside::put_outside;
 use crate::random::Random;
+use crate::restructuring;
 use crate::sovereign::{put_wrong, right_steps};
 use crate::values;
 
@@ -63,7 +65,7 @@ const COUNTS: &[u64] = &[
 ];
 
 pub fn record(random: &mut Random) -> [u64; RECORD_LENGTH] {
-    match random.below(24) {
+    match random.below(27) {
         0..=8 => accepted(random).to_numbers(),
         9..=13 => outside(random).to_numbers(),
         14..=16 => counts(random).to_numbers(),
@@ -75,6 +77,7 @@ pub fn record(random: &mut Random) -> [u64; RECORD_LENGTH] {
         18 => std::array::from_fn(|_| random.pick(EDGES)),
         19..=21 => wrong_sovereign(random).to_numbers(),
         22 => unknown_edition(random).to_numbers(),
+        23..=25 => unknown_instrument(random).to_numbers(),
         _ => match random.below(4) {
             0 => [0; RECORD_LENGTH],
             1 => [1; RECORD_LENGTH],
@@ -92,17 +95,17 @@ fn accepted(random: &mut Random) -> Record {
     let mut record = Record::new(
         terms,
         &Vec::from_iter((0..collateral).map(|_| values::collateral(random, &terms, collateral))),
-        &Vec::from_iter((0..guarantees).map(|_| values::guarantee(random, &terms, guarantees))),
+        &Vec::from_iter((0..guarantees).map(|_| values::held(random, &terms, guarantees))),
     );
     fill_past_counts(random, &mut record);
     record
 }
 
 /// Puts garbage into every place past a count, or items that could be counted,
-/// or guarantees that could be but for their sovereign's step.
+/// or guarantees that could be but for their sovereign's step or their instrument.
 pub fn fill_past_counts(random: &mut Random, record: &mut Record) {
     let terms = record.terms;
-    let sort = random.below(5);
+    let sort = random.below(6);
     let number = |random: &mut Random| match sort {
         0 => u64::MAX,
         1 => random.pick(EDGES),
@@ -110,18 +113,22 @@ pub fn fill_past_counts(random: &mut Random, record: &mut Record) {
     };
     for place in past(record.collateral_count) {
         record.collateral[place] = match sort {
-            3 | 4 => values::collateral(random, &terms, 1),
+            3..=5 => values::collateral(random, &terms, 1),
             _ => Collateral::from_numbers(&std::array::from_fn(|_| number(random))),
         };
     }
     for place in past(record.guarantee_count) {
         record.guarantees[place] = match sort {
-            3 => values::guarantee(random, &terms, 1),
+            3 => values::held(random, &terms, 1),
             4 => {
-                let item = values::guarantee(random, &terms, 1);
+                let item = values::held(random, &terms, 1);
                 wrongly_provided(random, &item)
             }
-            _ => Guarantee::from_numbers(&std::array::from_fn(|_| number(random))),
+            5 => HeldGuarantee {
+                instrument: restructuring::unknown(random),
+                ..values::held(random, &terms, 1)
+            },
+            _ => HeldGuarantee::from_numbers(&std::array::from_fn(|_| number(random))),
         };
     }
 }
@@ -141,7 +148,7 @@ pub fn change_sovereigns(random: &mut Random, record: &mut Record) {
 /// The record with zeros in the places past its counts.
 pub fn without_garbage(mut record: Record) -> Record {
     record.collateral[past(record.collateral_count)].fill(Collateral::default());
-    record.guarantees[past(record.guarantee_count)].fill(Guarantee::default());
+    record.guarantees[past(record.guarantee_count)].fill(HeldGuarantee::default());
     record
 }
 
@@ -161,8 +168,9 @@ fn outside(random: &mut Random) -> Record {
         }
         2 if counted[1] > 0 => {
             let item = &mut record.guarantees[random.index(counted[1])];
-            let fields = changed(random, b'G', &item.to_numbers());
-            *item = Guarantee::from_numbers(&fields);
+            let mut line = held::line(item);
+            change(random, &mut line);
+            *item = held(&line);
         }
         _ => {
             let fields = changed(random, b'D', &record.terms.to_numbers());
@@ -172,18 +180,29 @@ fn outside(random: &mut Random) -> Record {
     record
 }
 
-/// The guarantee with a wrong sovereign's step.
-fn wrongly_provided(random: &mut Random, item: &Guarantee) -> Guarantee {
-    let mut line = Line::new(b'G', &item.to_numbers());
+/// The guarantee or swap with a wrong sovereign's step.
+fn wrongly_provided(random: &mut Random, item: &HeldGuarantee) -> HeldGuarantee {
+    let mut line = held::line(item);
     put_wrong(random, &mut line);
-    Guarantee::from_numbers(&std::array::from_fn(|place| line.fields[place]))
+    held(&line)
+}
+
+/// With an unknown instrument in a counted place, if one is counted.
+fn unknown_instrument(random: &mut Random) -> Record {
+    let mut record = accepted(random);
+    let counted = record.guarantee_count as usize;
+    if counted > 0 {
+        let item = &mut record.guarantees[random.index(counted)];
+        item.instrument = restructuring::unknown(random);
+    }
+    record
 }
 
 /// Wrong for the sovereign's step of the counterparty or of a counted provider.
 fn wrong_sovereign(random: &mut Random) -> Record {
     let mut record = accepted(random);
     let counted = record.guarantee_count as usize;
-    if counted > 0 && random.percent(50) {
+    if counted > 0 && random.percent(65) {
         let item = &mut record.guarantees[random.index(counted)];
         *item = wrongly_provided(random, item);
     } else {
@@ -207,11 +226,18 @@ pub fn changed<const LENGTH: usize>(
     fields: &[u64; LENGTH],
 ) -> [u64; LENGTH] {
     let mut line = Line::new(letter, fields);
-    match random.percent(30) {
-        true => line.fields[random.index(LENGTH)] = random.pick(EDGES),
-        false => put_outside(random, &mut line),
-    }
+    change(random, &mut line);
     std::array::from_fn(|place| line.fields[place])
+}
+
+fn change(random: &mut Random, line: &mut Line) {
+    match random.percent(30) {
+        true => {
+            let place = random.index(line.fields.len());
+            line.fields[place] = random.pick(EDGES);
+        }
+        false => put_outside(random, line),
+    }
 }
 
 /// Counts that need not agree with the lists, whose places are all filled.
@@ -219,7 +245,7 @@ fn counts(random: &mut Random) -> Record {
     let mut record = accepted(random);
     let terms = record.terms;
     record.collateral = std::array::from_fn(|_| values::collateral(random, &terms, 4));
-    record.guarantees = std::array::from_fn(|_| values::guarantee(random, &terms, 4));
+    record.guarantees = std::array::from_fn(|_| values::held(random, &terms, 4));
     let mut count = || match random.percent(40) {
         true => random.pick(COUNTS),
         false => random.below(21),
@@ -253,6 +279,9 @@ mod tests {
             assert!(hadlephoga::report(&record).is_ok());
             assert!(hadlephoga::report(&wrong_sovereign(random)).is_err());
             assert!(hadlephoga::report(&unknown_edition(random)).is_err());
+            let unknown = unknown_instrument(random);
+            let counted = unknown.guarantee_count > 0;
+            assert_eq!(hadlephoga::report(&unknown).is_err(), counted);
         }
     }
 }

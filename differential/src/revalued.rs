@@ -4,6 +4,7 @@
 
 use crate::debt::place_of_type;
 use crate::heading::{CURRENCY, INTERVAL, KIND};
+use crate::held::LETTERS;
 use crate::line::Line;
 use crate::random::Random;
 use crate::values::AMOUNT_LIMIT;
@@ -59,13 +60,17 @@ const GOODS: [[u64; 3]; 16] = [
     [6, 1, 360],
 ];
 
-/// Of a deal: three tenths of a sixteenth of it are still more than a million.
+/// Of a deal: three tenths of a sixteenth of it are still more than a million, cut to
+/// 60 percent too.
 const LEAST_AMOUNT: u64 = AMOUNT_LIMIT / 10_000;
 
 /// Makes a deal such a one.
 pub fn revalue(random: &mut Random, deal: &mut [Line]) {
-    let count = |letter| deal.iter().filter(|line| line.letter == letter).count() as u64;
-    let counts = [count(b'C'), count(b'G')];
+    let count = |letters: &[u8]| {
+        let lines = deal.iter().filter(|line| letters.contains(&line.letter));
+        lines.count() as u64
+    };
+    let counts = [count(b"C"), count(&LETTERS)];
     let Some((opening, items)) = deal.split_first_mut() else {
         return;
     };
@@ -75,7 +80,7 @@ pub fn revalue(random: &mut Random, deal: &mut [Line]) {
     terms[AMOUNT] = random.between(LEAST_AMOUNT, most);
     put_goods(random, opening, &GOODS);
     for item in items {
-        let count = counts[usize::from(item.letter == b'G')];
+        let count = counts[usize::from(LETTERS.contains(&item.letter))];
         put_amount(random, item, opening.fields[AMOUNT] / count);
         lengthen(random, item, opening.fields[TERM]);
         if random.percent(50) {

@@ -10,12 +10,20 @@ use crate::sovereign::right_steps;
 const COUNTERPARTIES: &[[u64; 2]] = &[[2, 0], [2, 2], [3, 3], [2, 3], [1, 4], [1, 6], [3, 6]];
 const PROVIDERS: &[[u64; 2]] = &[[2, 0], [2, 2], [3, 3], [2, 3], [3, 2], [1, 4], [2, 4]];
 
+/// Those whose order of cover changes, under one that weighs more than any of them.
+const HEAVIEST: &[[u64; 2]] = &[[1, 6], [3, 6]];
+const REORDERED: &[[u64; 2]] = &[[1, 4], [3, 3], [2, 3], [2, 2]];
+
 /// Makes four in five parties of a deal such ones; a sovereign has none above it.
 pub fn reweigh(random: &mut Random, deal: &mut [Line]) {
+    let [counterparties, providers] = match random.percent(20) {
+        true => [HEAVIEST, REORDERED],
+        false => [COUNTERPARTIES, PROVIDERS],
+    };
     for line in deal {
         let parties = match line.letter {
-            b'D' => COUNTERPARTIES,
-            b'G' => PROVIDERS,
+            b'D' => counterparties,
+            b'G' | b'S' => providers,
             _ => continue,
         };
         if random.percent(80) {

@@ -5,10 +5,11 @@ use std::path::Path;
 
 use hadlephoga::BOOK_LIMIT;
 
-use crate::deal::{deal, deal_with};
+use crate::deal::without_swaps;
 use crate::heading::{header, CURRENCY, INTERVAL, KIND};
 use crate::line::Line;
 use crate::random::Random;
+use crate::values;
 
 /// A book and how much is in it.
 pub struct Measured {
@@ -16,7 +17,7 @@ pub struct Measured {
     pub edition: u64,
     pub book: Vec<u8>,
     pub deals: usize,
-    /// Lines C and G.
+    /// Lines C, G and S.
     pub items: usize,
 }
 
@@ -65,7 +66,7 @@ fn empty(name: &str, edition: u64) -> Measured {
 
 /// A deal for any header: what it sends of it is the line's concern.
 fn with_items(items: u64) -> impl FnMut(&mut Random) -> Vec<Line> {
-    move |random| deal_with(random, 1, items, items)
+    move |random| without_swaps(random, 1, items, items)
 }
 
 /// Kind and interval of deals in turn.
@@ -95,7 +96,7 @@ const REVALUED: [(&str, Revalued); 4] = [
 fn revalued(in_turn: Revalued) -> impl FnMut(&mut Random) -> Vec<Line> {
     let mut in_turn = in_turn.iter().cycle();
     move |random| {
-        let mut lines = deal_with(random, 1, 4, 4);
+        let mut lines = without_swaps(random, 1, 4, 4);
         if let Some([kind, interval]) = in_turn.next() {
             lines[0].fields[KIND] = *kind;
             lines[0].fields[INTERVAL] = *interval;
@@ -115,14 +116,27 @@ fn another_currency(currency: u64) -> u64 {
     }
 }
 
+/// The deals of `4+4`, but for the letter S of every guarantee and its entry behind it:
+/// no and yes in turn.
+fn swaps(random: &mut Random) -> Vec<Line> {
+    let mut lines = without_swaps(random, 1, 4, 4);
+    let guarantees = lines.iter_mut().filter(|line| line.letter == b'G');
+    for (line, entry) in guarantees.zip([0, 1].into_iter().cycle()) {
+        line.letter = b'S';
+        line.fields.push(entry);
+    }
+    lines
+}
+
 /// Full books, as many whole deals as fit: of six shapes, then by how often their
-/// deals are revalued.
+/// deals are revalued, then with swaps.
 pub fn full(editions: &[u64]) -> Vec<Books> {
     let by_shape = by_shape(editions).into_iter();
     let by_revaluation = REVALUED
         .map(|(name, in_turn)| filled(name, editions, usize::MAX, revalued(in_turn)))
         .into_iter();
-    by_shape.chain(by_revaluation).collect()
+    let with_swaps = filled("swaps", editions, usize::MAX, swaps);
+    by_shape.chain(by_revaluation).chain([with_swaps]).collect()
 }
 
 fn by_shape(editions: &[u64]) -> Vec<Books> {
@@ -132,9 +146,12 @@ fn by_shape(editions: &[u64]) -> Vec<Books> {
         with("1+1", 1),
         with("4+4", 4),
         with("16+16", 16),
-        filled("mixed", editions, usize::MAX, |random| deal(random, 1)),
+        filled("mixed", editions, usize::MAX, |random| {
+            let [collateral, guarantees] = [(); 2].map(|()| values::list_length(random));
+            without_swaps(random, 1, collateral, guarantees)
+        }),
         filled("refused-at-first-line", editions, usize::MAX, |random| {
-            let mut lines = deal_with(random, 1, 4, 4);
+            let mut lines = without_swaps(random, 1, 4, 4);
             lines[0].fields[2] = 7; // No step: refusal 3.
             lines
         }),
@@ -245,7 +262,7 @@ mod tests {
 
     #[test]
     fn books_by_revaluation_have_the_periods_they_say() {
-        let books = Vec::from_iter(full(&EDITIONS).into_iter().skip(6));
+        let books = Vec::from_iter(full(&EDITIONS).into_iter().skip(6).take(4));
         assert_eq!(books.len(), PERIODS.len());
         for (books, (name, of_deals, of_guarantees)) in books.iter().zip(PERIODS) {
             for measured in books {
@@ -262,7 +279,8 @@ mod tests {
 
     #[test]
     fn every_second_deal_of_intervals_is_daily_and_none_has_the_period_before() {
-        let intervals = full(&[1]).pop().expect("the last book");
+        let intervals = full(&[1]).swap_remove(9);
+        assert_eq!(intervals[0].name, "intervals");
         let deals = deals(&intervals[0]);
         for pair in deals.windows(2) {
             let periods = [0, 1].map(|of| {
@@ -293,7 +311,7 @@ mod tests {
             let books = Vec::from_iter(full(&[edition]).into_iter().flatten());
             let four = deals(&books[2]);
             assert_eq!(books[2].name, "4+4");
-            for measured in &books[6..] {
+            for measured in &books[6..10] {
                 let same = deals(measured).into_iter().zip(&four);
                 for (deal, of_four) in same {
                     let without = |deal: &[Line]| {

@@ -1,7 +1,11 @@
 //! Both implementations behind the same calls on the same numbers.
 
-use hadlephoga::{BookReply, Collateral, Guarantee, Record, Terms, RECORD_LENGTH, REPORT_LENGTH};
-use reference::Outcome;
+use hadlephoga::{
+    BookReply, Collateral, HeldGuarantee, Record, Terms, RECORD_LENGTH, REPORT_LENGTH,
+};
+use reference::{Cover, Outcome};
+
+use crate::held::{GUARANTEE, WITHOUT_CONDITION};
 
 #[derive(Clone, Copy, Debug, PartialEq, Eq)]
 pub enum Side {
@@ -51,6 +55,11 @@ pub fn reference_report(record: &[u64; RECORD_LENGTH]) -> (u64, [u64; REPORT_LEN
         *number = value;
     }
     (report.refusal, numbers)
+}
+
+/// The weighted amount of an accepted deal, by the second implementation.
+pub fn reference_weighted_amount(record: &Record) -> u64 {
+    reference::report(&to_reference(record)).weighted
 }
 
 fn pair(outcome: Outcome) -> [u64; 2] {
@@ -110,6 +119,7 @@ pub fn reference_refusal(letter: u8, fields: &[u64]) -> u64 {
     reference_open(&TERMS, &mut record);
     match letter {
         b'C' => reference_add(reference::add_collateral, &mut record, fields),
+        b'S' => reference_add(reference::add_swap, &mut record, fields),
         _ => reference_add(reference::add_guarantee, &mut record, fields),
     }
 }
@@ -157,8 +167,9 @@ fn collateral_to_reference(item: Collateral) -> reference::Collateral {
     }
 }
 
-fn guarantee_to_reference(item: Guarantee) -> reference::Guarantee {
-    reference::Guarantee {
+/// An unknown instrument is a swap's whose condition is wrong: either is refused.
+fn guarantee_to_reference(item: HeldGuarantee) -> Cover {
+    let guarantee = reference::Guarantee {
         amount: item.amount,
         class: item.class,
         step: item.step,
@@ -169,6 +180,13 @@ fn guarantee_to_reference(item: Guarantee) -> reference::Guarantee {
         lawful: item.lawful,
         direct: item.direct,
         unreflected: item.unreflected,
+    };
+    match item.instrument {
+        GUARANTEE => guarantee.into(),
+        instrument => Cover::Swap(reference::Swap {
+            guarantee,
+            restructuring: instrument - WITHOUT_CONDITION,
+        }),
     }
 }
 
@@ -216,8 +234,13 @@ fn collateral_from_reference(item: reference::Collateral) -> Collateral {
     }
 }
 
-fn guarantee_from_reference(item: reference::Guarantee) -> Guarantee {
-    Guarantee {
+fn guarantee_from_reference(cover: Cover) -> HeldGuarantee {
+    let item = cover.guarantee();
+    let instrument = match cover {
+        Cover::Guarantee(_) => GUARANTEE,
+        Cover::Swap(swap) => WITHOUT_CONDITION + swap.restructuring,
+    };
+    HeldGuarantee {
         amount: item.amount,
         class: item.class,
         step: item.step,
@@ -228,6 +251,7 @@ fn guarantee_from_reference(item: reference::Guarantee) -> Guarantee {
         lawful: item.lawful,
         direct: item.direct,
         unreflected: item.unreflected,
+        instrument,
     }
 }
 
@@ -239,5 +263,10 @@ mod tests {
     fn a_record_is_the_same_on_both_sides() {
         let record = Record::from_numbers(&std::array::from_fn(|place| place as u64));
         assert_eq!(from_reference(&to_reference(&record)), record);
+        for instrument in [0, 1, 2, 3, u64::MAX] {
+            let mut record = Record::default();
+            record.guarantees[15].instrument = instrument;
+            assert_eq!(from_reference(&to_reference(&record)), record);
+        }
     }
 }

@@ -7,6 +7,7 @@ use hadlephoga::{Record, ITEMS};
 
 use crate::cells::{cell, Cell, Cells};
 use crate::heading::{is_sent, CLASS, EDITIONS, SOVEREIGN_STEP, STEP};
+use crate::held::{self, LETTERS};
 use crate::line::Line;
 use crate::random::Random;
 use crate::sides::{reference_refusal, reference_report};
@@ -67,14 +68,14 @@ pub struct Sovereigns {
     numbers: Cells,
     /// Wrong ones of records.
     records: Cells,
-    /// Wrong ones of providers past a count, by class.
+    /// Wrong ones of providers past a count, by letter and class.
     past_counts: Cells,
 }
 
 impl Sovereigns {
     pub fn new() -> Self {
-        let wrong = entries(b"DG", wrong_steps);
-        let mut all = entries(b"DG", |class| right_steps(class).collect());
+        let wrong = entries(b"DGS", wrong_steps);
+        let mut all = entries(b"DGS", |class| right_steps(class).collect());
         all.extend(&wrong);
         Sovereigns {
             lines: Cells::new(
@@ -89,9 +90,10 @@ impl Sovereigns {
                 "wrong sovereign's steps of records: line, class, entry, edition",
                 by_edition(&wrong),
             ),
-            past_counts: Cells::of_numbers(
-                "wrong sovereign's steps past a count: class",
-                classes(b'G'),
+            past_counts: Cells::new(
+                "wrong sovereign's steps past a count: line, class",
+                (LETTERS.into_iter())
+                    .flat_map(|of| classes(of).map(move |class| cell(&[of.into(), class]))),
             ),
         }
     }
@@ -111,7 +113,7 @@ impl Sovereigns {
         }
     }
 
-    /// Counts the entry of terms or of a guarantee that opening or adding
+    /// Counts the entry of terms, of a guarantee or of a swap that opening or adding
     /// answered so, in a deal of this edition.
     pub fn meet_numbers(&mut self, letter: u8, fields: &[u64], edition: u64, refusal: u64) {
         let met = match refusal {
@@ -136,7 +138,8 @@ impl Sovereigns {
             (b'D', record.terms.class, record.terms.sovereign_step)
         } else if let Some(place) = counted.position(|item| is_wrong(b'G', &item.to_numbers())) {
             let item = &mut mended.guarantees[place];
-            (b'G', item.class, std::mem::take(&mut item.sovereign_step))
+            let letter = held::line(item).letter;
+            (letter, item.class, std::mem::take(&mut item.sovereign_step))
         } else {
             return;
         };
@@ -152,11 +155,11 @@ impl Sovereigns {
         let Some(item) = record.guarantees.get(record.guarantee_count as usize) else {
             return;
         };
-        let mut fields = item.to_numbers();
-        if is_wrong(b'G', &fields) {
+        let Line { letter, mut fields } = held::line(item);
+        if is_wrong(letter, &fields) {
             fields[SOVEREIGN_STEP] = 0;
-            if reference_refusal(b'G', &fields) == 0 {
-                self.past_counts.meet(&[item.class]);
+            if reference_refusal(letter, &fields) == 0 {
+                self.past_counts.meet(&[letter.into(), item.class]);
             }
         }
     }
@@ -178,15 +181,22 @@ fn is_cause(letter: u8, fields: &[u64]) -> bool {
     }
 }
 
-/// Puts a wrong entry into terms or a guarantee, of any class; nothing else is
+/// Puts a wrong entry into terms, a guarantee or a swap, of any class; nothing else is
 /// refused of a line that was accepted. Lines C have none.
 pub fn put_wrong(random: &mut Random, line: &mut Line) {
     if line.letter == b'C' {
         return;
     }
-    let class = random.between(1, *classes(line.letter).end());
+    // Each entry as often as any other, whatever its class has.
+    let of = |class| {
+        wrong_steps(class)
+            .into_iter()
+            .map(move |step| [class, step])
+    };
+    let entries = Vec::from_iter(classes(line.letter).flat_map(of));
+    let [class, step] = random.pick(&entries);
     line.fields[CLASS] = class;
-    line.fields[SOVEREIGN_STEP] = random.pick(&wrong_steps(class));
+    line.fields[SOVEREIGN_STEP] = step;
     if class == RETAIL {
         line.fields[STEP] = 0;
     }
@@ -196,17 +206,17 @@ pub fn put_wrong(random: &mut Random, line: &mut Line) {
 mod tests {
     use super::*;
     use crate::deal::deal_with;
-    use hadlephoga::{Guarantee, Terms};
+    use hadlephoga::{HeldGuarantee, Terms};
 
     #[test]
     fn every_entry_is_listed() {
         let sovereigns = Sovereigns::new();
         // Counterparties: 1 + 7 + 7 + 1 right, 10 + 4 + 4 + 10 wrong; providers 15
-        // and 18.
-        assert_eq!(sovereigns.lines.all(), 2 * (28 + 18));
-        assert_eq!(sovereigns.numbers.all(), 3 * (16 + 28 + 15 + 18));
-        assert_eq!(sovereigns.records.all(), 3 * (28 + 18));
-        assert_eq!(sovereigns.past_counts.all(), 3);
+        // and 18, of guarantees and of swaps.
+        assert_eq!(sovereigns.lines.all(), 2 * (28 + 2 * 18));
+        assert_eq!(sovereigns.numbers.all(), 3 * (16 + 28 + 2 * (15 + 18)));
+        assert_eq!(sovereigns.records.all(), 3 * (28 + 2 * 18));
+        assert_eq!(sovereigns.past_counts.all(), 2 * 3);
     }
 
     #[test]
@@ -247,10 +257,10 @@ mod tests {
     fn entries_of_records() {
         let mut met = Sovereigns::new();
         let terms = Terms::from_numbers(&[500, 3, 0, 0, 978, 3, 1, 90, 1, 0, 0, 2]);
-        let item = |step| Guarantee::from_numbers(&[9, 1, 1, step, 978, 90, 90, 1, 1, 1]);
+        let item = |step| HeldGuarantee::from_numbers(&[9, 1, 1, step, 978, 90, 90, 1, 1, 1, 2]);
         let mut record = Record::new(terms, &[], &[item(0), item(4)]);
         met.meet_record(&record);
-        let due = cell(&[b'G'.into(), 1, 4, 2]);
+        let due = cell(&[b'S'.into(), 1, 4, 2]);
         assert!(met
             .records
             .counts()

@@ -3,10 +3,12 @@
 //! next to these, where nothing stored may be used. Each is to be met where a
 //! figure one millionth higher or lower would change a number of the report.
 
-use hadlephoga::{Collateral, Guarantee, Outcome, Record, Report, Terms};
+use hadlephoga::{Collateral, HeldGuarantee, Outcome, Record, Report, Terms};
 
 use crate::cells::{cell, Cell, Cells};
+use crate::cuts::counted_amount;
 use crate::heading::EDITIONS;
+use crate::held::GUARANTEE;
 use crate::periods;
 use crate::table_haircuts::{self, CURRENCY};
 
@@ -16,12 +18,14 @@ const OF_LENT: u64 = 2;
 const OF_LENT_NOT_ELIGIBLE: u64 = 3;
 const OF_COLLATERAL_CURRENCY: u64 = 4;
 const OF_GUARANTEE_CURRENCY: u64 = 5;
-const USES: [u64; 5] = [
+const OF_SWAP_CURRENCY: u64 = 6;
+const USES: [u64; 6] = [
     OF_COLLATERAL,
     OF_LENT,
     OF_LENT_NOT_ELIGIBLE,
     OF_COLLATERAL_CURRENCY,
     OF_GUARANTEE_CURRENCY,
+    OF_SWAP_CURRENCY,
 ];
 
 /// Of daily deals, by kind.
@@ -69,7 +73,8 @@ impl Stored {
         }
         let counted = record.guarantees.iter().zip(&report.guarantees);
         for (item, cover) in counted.take(record.guarantee_count as usize) {
-            if tells(terms, item.amount, item.residual_term, &cover.outcome) {
+            let amount = counted_amount(terms, item);
+            if tells(terms, amount, item.residual_term, &cover.outcome) {
                 self.meet_guarantee(terms, item);
             }
         }
@@ -101,9 +106,13 @@ impl Stored {
         }
     }
 
-    fn meet_guarantee(&mut self, terms: &Terms, item: &Guarantee) {
+    fn meet_guarantee(&mut self, terms: &Terms, item: &HeldGuarantee) {
         if item.currency != terms.currency {
-            self.meet_figure(terms, OF_GUARANTEE_CURRENCY, CURRENCY);
+            let of = match item.instrument {
+                GUARANTEE => OF_GUARANTEE_CURRENCY,
+                _ => OF_SWAP_CURRENCY,
+            };
+            self.meet_figure(terms, of, CURRENCY);
         }
     }
 
@@ -126,7 +135,7 @@ fn tells(terms: &Terms, amount: u64, residual_term: u64, outcome: &Outcome) -> b
 
 fn period(of: u64, kind: u64, interval: u64) -> u64 {
     match of {
-        OF_GUARANTEE_CURRENCY => periods::of_guarantees(interval),
+        OF_GUARANTEE_CURRENCY | OF_SWAP_CURRENCY => periods::of_guarantees(interval),
         _ => periods::of_deal(kind, interval),
     }
 }
@@ -179,6 +188,7 @@ fn next() -> impl Iterator<Item = Cell> {
 mod tests {
     use super::*;
     use crate::deal::deal;
+    use crate::held::{held, LETTERS, WITHOUT_CONDITION};
     use crate::line::Line;
     use crate::random::Random;
     use crate::revalued::revalue;
@@ -188,21 +198,17 @@ mod tests {
         let stored = Stored::new();
         // Haircuts of goods under each edition; collateral or lent; the rest.
         let haircuts = 13 + 13 + 14;
-        // 5 by kind 1, 10 by two kinds, 20 by three; of guarantees 10 and 20.
+        // 5 by kind 1, 10 by two kinds, 20 by three; of guarantees and of swaps 10 and
+        // 20.
         assert_eq!(
             stored.daily.all(),
-            (2 * haircuts + 2 * 3) * (1 + 2 + 3) + 3 * 2 * 3
+            (2 * haircuts + 2 * 3) * (1 + 2 + 3) + 2 * 3 * 2 * 3
         );
         // Without 0; 6 and 9 are no periods of guarantees.
-        assert_eq!(stored.next.all(), (2 * (haircuts - 3) + 2 * 3) * 7 + 3 * 5);
-    }
-
-    /// The least h with 10 × h × h at or above the square of the haircut, times the
-    /// days.
-    fn scaled(haircut: u64, days: u64) -> u64 {
-        let square = (haircut * haircut * days).div_ceil(10);
-        let root = square.isqrt();
-        root + u64::from(root * root < square)
+        assert_eq!(
+            stored.next.all(),
+            (2 * (haircuts - 3) + 2 * 3) * 7 + 2 * 3 * 5
+        );
     }
 
     fn met(record: &Record, report: &Report) -> Vec<Cell> {
@@ -226,8 +232,8 @@ mod tests {
         let terms = lines[0].fields[..].try_into().expect("terms");
         let items = of(b'C').map(|line| line.fields[..].try_into().expect("an item"));
         let collateral = Vec::from_iter(items.map(|item| Collateral::from_numbers(&item)));
-        let items = of(b'G').map(|line| line.fields[..].try_into().expect("an item"));
-        let guarantees = Vec::from_iter(items.map(|item| Guarantee::from_numbers(&item)));
+        let guarantees = lines.iter().filter(|line| LETTERS.contains(&line.letter));
+        let guarantees = Vec::from_iter(guarantees.map(held));
         Record::new(Terms::from_numbers(&terms), &collateral, &guarantees)
     }
 
@@ -246,7 +252,7 @@ mod tests {
         let report = reported(record);
         let met = met(record, &report).into_iter();
         let met = met.filter(|cell| uses.contains(&cell[1]));
-        let figures = met.map(|cell| scaled(cell[3], cell[2])).collect();
+        let figures = met.map(|cell| periods::scaled(cell[3], cell[2])).collect();
         (report, figures)
     }
 
@@ -285,18 +291,20 @@ mod tests {
 
     #[test]
     fn guarantees_that_are_met_tell() {
-        let mut told = 0;
+        let mut told = [0; 3];
         for record in records() {
             for item in &record.guarantees[..record.guarantee_count as usize] {
                 let alone = Record::new(record.terms, &[], &[*item]);
-                let (report, figures) = figures_met(&alone, &[OF_GUARANTEE_CURRENCY]);
+                let uses = [OF_GUARANTEE_CURRENCY, OF_SWAP_CURRENCY];
+                let (report, figures) = figures_met(&alone, &uses);
                 for haircut in figures {
-                    told += 1;
-                    assert_told(report.guarantees[0].outcome.value(), item.amount, haircut);
+                    told[item.instrument as usize] += 1;
+                    let amount = counted_amount(&record.terms, item);
+                    assert_told(report.guarantees[0].outcome.value(), amount, haircut);
                 }
             }
         }
-        assert!(told > 100, "{told}");
+        assert!(told.iter().all(|told| *told > 30), "{told:?}");
     }
 
     #[test]
@@ -326,11 +334,11 @@ mod tests {
     fn small() -> Record {
         let terms = [1_000_000, 3, 4, 0, 978, 3, 1, 90, 2, 1, 360, 2];
         let item = [1_000_000, 2, 2, 361, 840, 90, 90, 1, 1, 1, 0];
-        let guarantee = [1_000_000, 1, 1, 0, 840, 90, 90, 1, 1, 1];
+        let guarantee = [1_000_000, 1, 1, 0, 840, 90, 90, 1, 1, 1, GUARANTEE];
         Record::new(
             Terms::from_numbers(&terms),
             &[Collateral::from_numbers(&item)],
-            &[Guarantee::from_numbers(&guarantee)],
+            &[HeldGuarantee::from_numbers(&guarantee)],
         )
     }
 
@@ -399,7 +407,7 @@ mod tests {
         mismatched.collateral[0].original_term = 1799;
         mismatched.guarantees[0].original_term = 1799;
         assert_eq!(uses(&mismatched), [OF_LENT]);
-        let guarantee = |change: fn(&mut Guarantee)| {
+        let guarantee = |change: fn(&mut HeldGuarantee)| {
             let mut deal = small();
             change(&mut deal.guarantees[0]);
             uses(&deal)
@@ -407,6 +415,9 @@ mod tests {
         assert_eq!(guarantee(|item| item.amount -= 1), all[..3]);
         assert_eq!(guarantee(|item| item.direct = 0), all[..3]);
         assert_eq!(guarantee(|item| item.currency = 978), all[..3]);
+        // What the cut leaves of a million is less.
+        let without = guarantee(|item| item.instrument = WITHOUT_CONDITION);
+        assert_eq!(without, all[..3]);
         let mut smaller = small();
         smaller.terms.amount -= 1;
         smaller.collateral[0].amount /= 2;

@@ -1,7 +1,10 @@
 //! A tally as a readable table.
 
+use std::collections::BTreeMap;
+
 use crate::answers::OTHER;
 use crate::cells::Cells;
+use crate::held::WITH_CONDITION;
 use crate::tally::{Counts, Tally};
 
 pub fn print(tally: &Tally) {
@@ -14,6 +17,7 @@ pub fn print(tally: &Tally) {
         &answers.opened,
         &answers.added_collateral,
         &answers.added_guarantees,
+        &answers.added_swaps,
         &answers.collateral_grounds,
         &answers.guarantee_grounds,
     ];
@@ -23,6 +27,7 @@ pub fn print(tally: &Tally) {
             row(&format!("  {}", cell[0]), count);
         }
     }
+    grounds_of_swaps(&answers.swap_grounds);
     lines_by_number(&answers.lines);
     println!();
     cases(&tally.families());
@@ -49,6 +54,7 @@ fn counted(counts: &Counts) {
     row("  accepted", counts.accepted_records);
     row("collateral valued", counts.valued_collateral);
     row("guarantees valued", counts.valued_guarantees);
+    row("swaps valued", counts.valued_swaps);
     row("numbers compared", counts.numbers);
 }
 
@@ -74,13 +80,31 @@ fn cases(families: &[&Cells]) {
     );
 }
 
+/// A row for each ground, a column for each entry of the condition.
+fn grounds_of_swaps(cells: &Cells) {
+    let mut grounds: BTreeMap<u64, [u64; 2]> = BTreeMap::new();
+    for (cell, count) in cells.counts() {
+        let by_entry = grounds.entry(cell[0]).or_default();
+        by_entry[usize::from(cell[1] == WITH_CONDITION)] += count;
+    }
+    println!("grounds of swaps without and with the condition");
+    for (ground, [without, with]) in grounds {
+        println!(
+            "  {ground:<42}{:>16}{:>16}",
+            grouped(without),
+            grouped(with)
+        );
+    }
+}
+
 /// A row for each refusal, a column for each letter.
 fn lines_by_number(cells: &Cells) {
     println!("{}", cells.title);
-    println!("{:>8}{:>12}{:>12}{:>12}{:>12}", "", "D", "C", "G", "other");
+    let letters = ["D", "C", "G", "S", "other"].map(|letter| format!("{letter:>12}"));
+    println!("{:>8}{}", "", letters.concat());
     for number in (1..=8).chain([11]) {
         print!("{number:>8}");
-        for letter in [b'D', b'C', b'G', OTHER as u8] {
+        for letter in [b'D', b'C', b'G', b'S', OTHER as u8] {
             let wanted = [u64::from(letter), number];
             let found = cells.counts().find(|(cell, _)| cell[..2] == wanted);
             let count = found.map_or(String::from("-"), |(_, count)| grouped(count));

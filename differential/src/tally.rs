@@ -2,18 +2,23 @@
 
 use std::collections::BTreeMap;
 
-use hadlephoga::{Collateral, Cover, Guarantee, Outcome, Record, Report, Terms};
+use hadlephoga::{Collateral, Cover, HeldGuarantee, Outcome, Record, Report, Terms};
 
 use crate::answers::{named, Answers};
 use crate::cells::Cells;
 use crate::changes;
+use crate::cuts::Cuts;
 use crate::days;
 use crate::editions::Editions;
 use crate::first_lines::FirstLines;
 use crate::floors;
+use crate::full_list;
 use crate::haircuts::Haircuts;
+use crate::held::{self, GUARANTEE};
 use crate::line::{self, Line};
+use crate::order::Order;
 use crate::parties::Parties;
+use crate::restructuring::Restructuring;
 use crate::sovereign::Sovereigns;
 use crate::stored::Stored;
 
@@ -33,6 +38,7 @@ pub struct Counts {
     pub accepted_records: u64,
     pub valued_collateral: u64,
     pub valued_guarantees: u64,
+    pub valued_swaps: u64,
     pub numbers: u64,
 }
 
@@ -52,6 +58,10 @@ pub struct Tally {
     pub first_lines: FirstLines,
     pub editions: Editions,
     pub sovereigns: Sovereigns,
+    pub restructuring: Restructuring,
+    pub cuts: Cuts,
+    pub order: Order,
+    pub full_lists: Cells,
 }
 
 impl Tally {
@@ -79,6 +89,12 @@ impl Tally {
             first_lines: FirstLines::new(),
             editions: Editions::new(),
             sovereigns: Sovereigns::new(),
+            restructuring: Restructuring::new(),
+            cuts: Cuts::new(),
+            order: Order::new(),
+            full_lists: full_list::cells(
+                "a seventeenth: line or adding, edition, line, behind which",
+            ),
         }
     }
 
@@ -94,6 +110,9 @@ impl Tally {
         families.extend(self.first_lines.families());
         families.extend(self.editions.families());
         families.extend(self.sovereigns.families());
+        families.extend(self.restructuring.families());
+        families.extend(self.cuts.families());
+        families.extend([&self.order.cells, &self.full_lists]);
         families
     }
 
@@ -121,7 +140,11 @@ impl Tally {
                     self.counts.accepted_deals += 1;
                     self.first_lines.meet(lines[0], true);
                 }
-                refusal => self.refused_line(edition, lines[answer[2] as usize - 1], refusal),
+                refusal => {
+                    let until = &lines[..answer[2] as usize];
+                    full_list::meet_line(&mut self.full_lists, until, edition, refusal);
+                    self.refused_line(edition, until[until.len() - 1], refusal);
+                }
             }
         }
     }
@@ -139,6 +162,7 @@ impl Tally {
             Some(line) => {
                 days::meet(&mut self.days, line.letter, &line.fields, refusal);
                 self.sovereigns.meet_line(&line, edition, refusal);
+                self.restructuring.meet_line(&line, edition, refusal);
             }
             None => self.first_lines.meet_line(edition, text),
         }
@@ -154,6 +178,8 @@ impl Tally {
         }
         self.haircuts.meet_lent(terms, report);
         self.stored.meet(record, report);
+        self.cuts.meet(record, report);
+        self.order.meet(record, report);
         days::meet(&mut self.days, b'D', &terms.to_numbers(), 0);
         let counted = record.collateral.iter().zip(&report.collateral);
         for (item, outcome) in counted.take(record.collateral_count as usize) {
@@ -164,6 +190,7 @@ impl Tally {
             self.guarantee(terms, item, cover);
         }
         self.sovereigns.meet_past_count(record);
+        self.restructuring.meet_reported(record);
     }
 
     fn collateral(&mut self, terms: &Terms, item: &Collateral, outcome: &Outcome) {
@@ -175,15 +202,23 @@ impl Tally {
         self.haircuts.meet_collateral(terms, item, outcome);
     }
 
-    fn guarantee(&mut self, terms: &Terms, item: &Guarantee, cover: &Cover) {
-        days::meet(&mut self.days, b'G', &item.to_numbers(), 0);
-        let met = match cover.outcome {
-            Outcome::Valued(_) => {
-                self.counts.valued_guarantees += 1;
+    fn guarantee(&mut self, terms: &Terms, item: &HeldGuarantee, cover: &Cover) {
+        let line = held::line(item);
+        days::meet(&mut self.days, line.letter, &line.fields, 0);
+        let met = match (cover.outcome, item.instrument) {
+            (Outcome::Valued(_), instrument) => {
+                match instrument {
+                    GUARANTEE => self.counts.valued_guarantees += 1,
+                    _ => self.counts.valued_swaps += 1,
+                }
                 cover.portion > 0
             }
-            Outcome::LeftOut(ground) => {
-                self.answers.guarantee_grounds.meet(&[ground.0]);
+            (Outcome::LeftOut(ground), instrument) => {
+                let answers = &mut self.answers;
+                match instrument {
+                    GUARANTEE => answers.guarantee_grounds.meet(&[ground.0]),
+                    _ => (answers.swap_grounds).meet(&[ground.0, instrument, terms.edition]),
+                }
                 [28, 29].contains(&ground.0)
             }
         };
@@ -192,7 +227,7 @@ impl Tally {
             floors::meet_provider(&mut self.floors, terms, item);
         }
         if cover.portion > 0 {
-            self.haircuts.meet_guarantee(terms, item.currency);
+            self.haircuts.meet_guarantee(terms, item);
         }
     }
 }
@@ -204,14 +239,17 @@ mod tests {
     #[test]
     fn every_family_is_demanded() {
         let tally = Tally::new();
-        // Eight edges and a day above the limit, in seven fields.
-        assert_eq!(tally.days.all(), 7 * 9);
-        assert_eq!(tally.days_on_numbers.all(), 7 * 9);
+        // Eight edges and a day above the limit, in nine fields.
+        assert_eq!(tally.days.all(), 9 * 9);
+        assert_eq!(tally.days_on_numbers.all(), 9 * 9);
         let families = tally.families();
-        assert_eq!(families.len(), 1 + 8 + 2 + 4 + 2 + 3 + 2 + 2 + 2 + 4);
+        assert_eq!(
+            families.len(),
+            1 + 11 + 2 + 4 + 2 + 4 + 2 + 3 + 2 + 4 + 6 + 3 + 2
+        );
         assert_eq!(
             families.iter().map(|cells| cells.all()).sum::<usize>(),
-            7437
+            8489
         );
     }
 }

@@ -10,15 +10,16 @@ use crate::sovereign::right_steps;
 const COUNTERPARTIES: &[u64] = &[2, 3];
 const PROVIDERS: &[u64] = &[2];
 
-/// Makes three in five parties of a deal unrated, with any sovereign.
+/// Makes three in five counterparties and every second provider unrated, with any
+/// sovereign.
 pub fn unrate(random: &mut Random, deal: &mut [Line]) {
     for line in deal {
-        let classes = match line.letter {
-            b'D' => COUNTERPARTIES,
-            b'G' => PROVIDERS,
+        let (classes, cases) = match line.letter {
+            b'D' => (COUNTERPARTIES, 60),
+            b'G' | b'S' => (PROVIDERS, 50),
             _ => continue,
         };
-        if random.percent(60) {
+        if random.percent(cases) {
             let class = random.pick(classes);
             let steps = right_steps(class);
             line.fields[CLASS] = class;
@@ -47,6 +48,6 @@ mod tests {
                 unrated += usize::from(line.fields[STEP] == 0);
             }
         }
-        assert!((60..80).contains(&(unrated * 100 / parties)));
+        assert!((50..70).contains(&(unrated * 100 / parties)));
     }
 }

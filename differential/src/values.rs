@@ -1,8 +1,9 @@
 //! Values of fields that opening and adding accept: the edges of every range
 //! and of every band, and typical values between them.
 
-use hadlephoga::{Collateral, Guarantee, Terms};
+use hadlephoga::{Collateral, Guarantee, HeldGuarantee, Swap, Terms};
 
+use crate::held::{GUARANTEE, WITHOUT_CONDITION, WITH_CONDITION};
 use crate::random::Random;
 use crate::sovereign::right_steps;
 
@@ -211,6 +212,22 @@ pub fn guarantee(random: &mut Random, deal: &Terms, items: u64) -> Guarantee {
     }
 }
 
+/// One of so many swaps of the deal, with either entry of its condition.
+pub fn swap(random: &mut Random, deal: &Terms, items: u64) -> Swap {
+    let numbers = guarantee(random, deal, items).to_numbers();
+    let restructuring = random.below(2);
+    let sent = |place| numbers.get(place).copied().unwrap_or(restructuring);
+    Swap::from_numbers(&std::array::from_fn(sent))
+}
+
+/// One of so many guarantees and swaps of the deal, as its record holds them.
+pub fn held(random: &mut Random, deal: &Terms, items: u64) -> HeldGuarantee {
+    HeldGuarantee {
+        instrument: random.weighted(&[(2, GUARANTEE), (1, WITHOUT_CONDITION), (1, WITH_CONDITION)]),
+        ..guarantee(random, deal, items).into()
+    }
+}
+
 /// How many items a list has: few in most deals, sixteen in some.
 pub fn list_length(random: &mut Random) -> u64 {
     match random.below(100) {
@@ -239,11 +256,13 @@ mod tests {
                 days::meet(&mut met, b'C', &item.to_numbers(), 0);
                 let item = guarantee(random, &terms, 3);
                 days::meet(&mut met, b'G', &item.to_numbers(), 0);
+                let item = swap(random, &terms, 3);
+                days::meet(&mut met, b'S', &item.to_numbers(), 0);
             }
         }
         // What is left is the day above the limit.
         assert!(met.never_met().all(|cell| cell[2] > DAYS_LIMIT));
-        assert_eq!(met.never_met().count(), 7);
+        assert_eq!(met.never_met().count(), 9);
     }
 
     #[test]
