@@ -1,7 +1,7 @@
 /* Compares the layouts, answers the sample book of document 01, builds and reports
  * its first deal, shows a deal that the floor of edition 2 reaches, one under the
- * tables of 2019 and of 2023, one with a swap of each kind, and what a refused call
- * gives. */
+ * tables of 2019 and of 2023, one with a swap of each kind, one whose items lose by
+ * every step, and what a refused call gives. */
 #include <inttypes.h>
 #include <stdio.h>
 #include <string.h>
@@ -65,19 +65,37 @@ static struct hadlephoga_deal build_first(void)
   return deal;
 }
 
+/* Where an item's amount went. */
+static void print_outcome(const char *name, uint64_t place, uint64_t amount, const struct hadlephoga_outcome *outcome)
+{
+  printf("%s %" PRIu64 " of %" PRIu64 ": ", name, place, amount);
+  if (outcome->ground == 0)
+    printf("value %" PRIu64 ", lost %" PRIu64 " by haircut, %" PRIu64 " by maturity, %" PRIu64 " by cut",
+           outcome->value, outcome->haircut_loss, outcome->maturity_loss, outcome->cut_loss);
+  else
+    printf("left out %" PRIu64 ", ground %" PRIu64, outcome->left_out, outcome->ground);
+}
+
 static void report_all(const struct hadlephoga_deal *deal)
 {
   struct hadlephoga_report report;
   uint64_t refusal = hadlephoga_report_of(deal, &report);
 
   printf("report: refusal %" PRIu64 ", E* %" PRIu64 "\n", refusal, report.exposure);
-  for (uint64_t i = 0; i < deal->collateral_count; i++)
-    printf("collateral %" PRIu64 ": value %" PRIu64 ", ground %" PRIu64 "\n", i + 1,
-           report.collateral[i].value, report.collateral[i].ground);
-  for (uint64_t i = 0; i < deal->guarantee_count; i++)
-    printf("%s %" PRIu64 ": value %" PRIu64 ", ground %" PRIu64 ", portion %" PRIu64 "\n",
-           deal->guarantees[i].instrument == HADLEPHOGA_GUARANTEE_INSTRUMENT ? "guarantee" : "swap", i + 1,
-           report.guarantees[i].value, report.guarantees[i].ground, report.guarantees[i].portion);
+  for (uint64_t i = 0; i < deal->collateral_count; i++) {
+    print_outcome("collateral", i + 1, deal->collateral[i].amount, &report.collateral[i]);
+    printf("\n");
+  }
+  for (uint64_t i = 0; i < deal->guarantee_count; i++) {
+    const struct hadlephoga_held_guarantee *item = &deal->guarantees[i];
+    struct hadlephoga_outcome outcome;
+
+    /* A cover begins with an outcome's numbers. */
+    memcpy(&outcome, &report.guarantees[i], sizeof outcome);
+    print_outcome(item->instrument == HADLEPHOGA_GUARANTEE_INSTRUMENT ? "guarantee" : "swap", i + 1,
+                  item->amount, &outcome);
+    printf(", portion %" PRIu64 "\n", report.guarantees[i].portion);
+  }
   printf("rest %" PRIu64 ", weighted amount %" PRIu64 "\n", report.rest, report.weighted_amount);
 }
 
@@ -193,6 +211,45 @@ static void show_swaps(void)
   report_all(&deal);
 }
 
+/* A loan of 4,000,000 to an unrated corporate for 1,800 days, with cash and with a
+ * swap of a bank at step 1 whose condition is not met. For another currency 8% go
+ * off, of collateral 113,138 millionths, its holding period being twenty days; a term
+ * of 900 days leaves 810 / 1,710.
+ *
+ *                                      cut        haircut      maturity
+ *   cash   1,000,000, short                                     473,684
+ *   cash   1,000,000, in dollars                  886,862
+ *   cash   1,000,000, both                        886,862       420,092
+ *   E*     4,000,000 less these                               2,219,362
+ *   swap   5,000,000, both       2,400,000      2,208,000     1,045,894
+ *   rest                                                      1,173,468
+ *   weighted amount: 1,045,894 at 20% and the rest at 100%    1,382,647
+ */
+static void show_losses(void)
+{
+  struct hadlephoga_terms larger = terms;
+  struct hadlephoga_collateral cash[3];
+  struct hadlephoga_swap above = swap;
+  struct hadlephoga_deal deal;
+
+  larger.amount = 4000000;
+  above.amount = 5000000;
+  for (size_t i = 0; i < 3; i++) {
+    cash[i] = bonds[0];
+    cash[i].amount = 1000000;
+    cash[i].type = 1;
+    cash[i].step = cash[i].issue_life = 0;
+  }
+  cash[0].residual_term = cash[2].residual_term = above.residual_term = 900;
+  cash[1].currency = cash[2].currency = above.currency = 840;
+  if (hadlephoga_open_with(&larger, &deal) != 0 || hadlephoga_add_collateral_to(&deal, &cash[0]) != 0 ||
+      hadlephoga_add_collateral_to(&deal, &cash[1]) != 0 || hadlephoga_add_collateral_to(&deal, &cash[2]) != 0 ||
+      hadlephoga_add_swap_to(&deal, &above) != 0)
+    return;
+  printf("losses\n");
+  report_all(&deal);
+}
+
 static void show_refusals(const struct hadlephoga_deal *first)
 {
   struct hadlephoga_terms unknown_class = terms;
@@ -236,6 +293,7 @@ int main(void)
   show_tables(3);
   answer(swapped);
   show_swaps();
+  show_losses();
   show_refusals(&first);
   return 0;
 }

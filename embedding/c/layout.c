@@ -19,6 +19,23 @@ static void is(int line, const char *name, uint64_t found, uint64_t due)
 
 #define IS(field, due) is(__LINE__, #field, (field), (due))
 
+/* These numbers are all the same; one that is not is said with its place. */
+static void all(int line, const void *numbers, size_t size, uint64_t due)
+{
+  char name[32];
+  uint64_t number;
+  size_t place;
+
+  for (place = 0; place < size / sizeof number; place++) {
+    memcpy(&number, (const unsigned char *)numbers + place * sizeof number, sizeof number);
+    snprintf(name, sizeof name, "number %u", (unsigned)place);
+    is(line, name, number, due);
+  }
+}
+
+#define ZEROS(numbers) all(__LINE__, &(numbers), sizeof(numbers), 0)
+#define MARKS(numbers) all(__LINE__, &(numbers), sizeof(numbers), MARK)
+
 /* Places */
 
 /* Fills a struct with 0, 1, 2, .. */
@@ -115,17 +132,26 @@ static void places_of_deal(void)
   }
 }
 
+/* The six numbers of an outcome, which begin a cover too. */
+#define OUTCOME_FROM(item, first) \
+  do { \
+    IS((item)->value, (first)); \
+    IS((item)->ground, (first) + 1); \
+    IS((item)->haircut_loss, (first) + 2); \
+    IS((item)->maturity_loss, (first) + 3); \
+    IS((item)->cut_loss, (first) + 4); \
+    IS((item)->left_out, (first) + 5); \
+  } while (0)
+
 static void outcome_from(const struct hadlephoga_outcome *outcome, uint64_t first)
 {
-  IS(outcome->value, first);
-  IS(outcome->ground, first + 1);
+  OUTCOME_FROM(outcome, first);
 }
 
 static void cover_from(const struct hadlephoga_cover *cover, uint64_t first)
 {
-  IS(cover->value, first);
-  IS(cover->ground, first + 1);
-  IS(cover->portion, first + 2);
+  OUTCOME_FROM(cover, first);
+  IS(cover->portion, first + 6);
 }
 
 static void places_of_report(void)
@@ -166,14 +192,16 @@ static void lengths(void)
   uint64_t report[HADLEPHOGA_REPORT_LENGTH];
 
   IS(hadlephoga_layout(), HADLEPHOGA_LAYOUT);
-  IS(HADLEPHOGA_LAYOUT, 3);
+  IS(HADLEPHOGA_LAYOUT, 4);
   IS(HADLEPHOGA_TERMS_WIDTH, 12);
   IS(HADLEPHOGA_COLLATERAL_WIDTH, 11);
   IS(HADLEPHOGA_GUARANTEE_WIDTH, 10);
   IS(HADLEPHOGA_SWAP_WIDTH, 11);
   IS(HADLEPHOGA_HELD_GUARANTEE_WIDTH, 11);
+  IS(HADLEPHOGA_OUTCOME_WIDTH, 6);
+  IS(HADLEPHOGA_COVER_WIDTH, 7);
   IS(HADLEPHOGA_RECORD_LENGTH, 366);
-  IS(HADLEPHOGA_REPORT_LENGTH, 83);
+  IS(HADLEPHOGA_REPORT_LENGTH, 211);
   IS(hadlephoga_open_deal(terms, HADLEPHOGA_TERMS_WIDTH, record, HADLEPHOGA_RECORD_LENGTH - 1), 13);
   IS(hadlephoga_open_deal(terms, HADLEPHOGA_TERMS_WIDTH - 1, record, HADLEPHOGA_RECORD_LENGTH), 11);
   IS(hadlephoga_open_deal(terms, HADLEPHOGA_TERMS_WIDTH, record, HADLEPHOGA_RECORD_LENGTH), 0);
@@ -349,6 +377,53 @@ static struct hadlephoga_deal deal_of_all_grounds(uint64_t last_but_one)
   return deal;
 }
 
+/* A cover without its portion. */
+static struct hadlephoga_outcome outcome_of(const struct hadlephoga_cover *cover)
+{
+  struct hadlephoga_outcome outcome;
+
+  memcpy(&outcome, cover, sizeof outcome);
+  return outcome;
+}
+
+/* Value and losses make up the amount that was sent, or all of it is left out. */
+static void adds_up(struct hadlephoga_outcome outcome, uint64_t amount)
+{
+  if (outcome.ground == 0) {
+    IS(outcome.value + outcome.haircut_loss + outcome.maturity_loss + outcome.cut_loss, amount);
+    IS(outcome.left_out, 0);
+    return;
+  }
+  IS(outcome.left_out, amount);
+  outcome.ground = outcome.left_out = 0;
+  ZEROS(outcome);
+}
+
+/* Every item that is counted adds up, nothing but a swap without its condition is cut,
+ * and past a count there are zeros. */
+static void adds_up_in(const struct hadlephoga_report *report, const struct hadlephoga_deal *deal)
+{
+  size_t i;
+
+  for (i = 0; i < HADLEPHOGA_ITEMS; i++) {
+    if (i < deal->collateral_count) {
+      adds_up(report->collateral[i], deal->collateral[i].amount);
+      IS(report->collateral[i].cut_loss, 0);
+    } else {
+      ZEROS(report->collateral[i]);
+    }
+    if (i < deal->guarantee_count) {
+      adds_up(outcome_of(&report->guarantees[i]), deal->guarantees[i].amount);
+      if (deal->guarantees[i].instrument != HADLEPHOGA_SWAP_WITHOUT_RESTRUCTURING)
+        IS(report->guarantees[i].cut_loss, 0);
+      if (report->guarantees[i].ground != 0)
+        IS(report->guarantees[i].portion, 0);
+    } else {
+      ZEROS(report->guarantees[i]);
+    }
+  }
+}
+
 struct marked_report {
   struct hadlephoga_report report;
   uint64_t mark;
@@ -359,6 +434,7 @@ static void reported(const struct hadlephoga_deal *deal, struct marked_report *m
   memset(marked, 0xA5, sizeof *marked);
   IS(hadlephoga_report_of(deal, &marked->report), 0);
   IS(marked->mark, MARK);
+  adds_up_in(&marked->report, deal);
 }
 
 static void grounds(const struct hadlephoga_report *report)
@@ -369,7 +445,9 @@ static void grounds(const struct hadlephoga_report *report)
 
   for (i = 0; i < HADLEPHOGA_ITEMS; i++) {
     IS(report->collateral[i].ground, collateral_grounds[i]);
+    IS(report->collateral[i].left_out, collateral_grounds[i] == 0 ? 0 : 10001 + i);
     IS(report->guarantees[i].ground, guarantee_grounds[i]);
+    IS(report->guarantees[i].left_out, guarantee_grounds[i] == 0 ? 0 : 20001 + i);
     if (i != 6 && i != 7)
       IS(report->collateral[i].value, 0);
     if (i != 7 && i != 8) {
@@ -378,6 +456,16 @@ static void grounds(const struct hadlephoga_report *report)
     }
   }
 }
+
+/* Value and losses of an item of either list that is valued. */
+#define WENT(item, to_value, by_haircut, by_maturity, by_cut) \
+  do { \
+    IS((item).ground, 0); \
+    IS((item).value, (to_value)); \
+    IS((item).haircut_loss, (by_haircut)); \
+    IS((item).maturity_loss, (by_maturity)); \
+    IS((item).cut_loss, (by_cut)); \
+  } while (0)
 
 static void meanings(void)
 {
@@ -388,14 +476,14 @@ static void meanings(void)
   reported(&deal, &marked);
   grounds(report);
   /* 300,000 less 20,000 and 80,000 millionths is 270,000; x 810 / 1,710. */
-  IS(report->collateral[6].value, 127894);
+  WENT(report->collateral[6], 127894, 30000, 142106, 0);
   /* 500,000 less 30,000 millionths. */
-  IS(report->collateral[7].value, 485000);
+  WENT(report->collateral[7], 485000, 15000, 0, 0);
   /* Raised by 60,000 millionths: 1,060,000 - 127,894 - 485,000. */
   IS(report->exposure, 447106);
-  IS(report->guarantees[7].value, 400000);
+  WENT(report->guarantees[7], 400000, 0, 0, 0);
   /* 80,000 at n 6 + 9 is 97,980: 225,505; x 910 / 1,710. */
-  IS(report->guarantees[8].value, 120005);
+  WENT(report->guarantees[8], 120005, 24495, 105500, 0);
   /* Weight 20 before weight 50, which covers what is left. */
   IS(report->guarantees[8].portion, 120005);
   IS(report->guarantees[7].portion, 327101);
@@ -406,7 +494,7 @@ static void meanings(void)
   deal = deal_of_all_grounds(150000);
   reported(&deal, &marked);
   IS(report->exposure, 447106);
-  IS(report->guarantees[7].value, 150000);
+  WENT(report->guarantees[7], 150000, 0, 0, 0);
   IS(report->guarantees[7].portion, 150000);
   IS(report->rest, 177101);
   /* (120,005 x 20 + 150,000 x 50 + 177,101 x 150) / 100 is 364,652.5. */
@@ -414,7 +502,8 @@ static void meanings(void)
 }
 
 /* Records that nothing accepts: cash has no step, a list no seventeenth place,
- * a sovereign no sovereign; there is no edition 0, nor a fourth, nor a third swap. */
+ * a sovereign no sovereign; there is no edition 0, nor a fourth, nor a third swap.
+ * Beside 40 every number is 0. */
 static void records_not_accepted(void)
 {
   struct hadlephoga_deal deal = deal_of_all_grounds(150000);
@@ -436,7 +525,9 @@ static void records_not_accepted(void)
   deal.guarantees[9].instrument = UINT64_MAX;
   reported(&deal, &marked);
   for (i = 0; i < sizeof wrong / sizeof wrong[0]; i++) {
+    memset(&marked, 0xA5, sizeof marked);
     IS(hadlephoga_report_of(&wrong[i], &marked.report), 40);
+    ZEROS(marked.report);
     IS(marked.mark, MARK);
   }
 }
@@ -499,7 +590,7 @@ static void swap_among_guarantees(uint64_t instrument, uint64_t value, uint64_t 
   IS((uint64_t)memcmp(&built, &deal, sizeof deal), 0);
   reported(&built, &marked);
   grounds(&marked.report);
-  IS(marked.report.guarantees[7].value, value);
+  WENT(marked.report.guarantees[7], value, 0, 0, 400000 - value);
   IS(marked.report.rest, rest);
   IS(marked.report.weighted_amount, weighted);
 }
@@ -516,7 +607,10 @@ static void grounds_of_swaps(uint64_t instrument)
   reported(&deal, &marked);
   grounds(&marked.report);
   /* 250,000, or 150,000 less 97,980 millionths, 135,303; x 910 / 1,710. */
-  IS(marked.report.guarantees[8].value, instrument == HADLEPHOGA_SWAP_WITH_RESTRUCTURING ? 120005 : 72003);
+  if (instrument == HADLEPHOGA_SWAP_WITH_RESTRUCTURING)
+    WENT(marked.report.guarantees[8], 120005, 24495, 105500, 0);
+  else
+    WENT(marked.report.guarantees[8], 72003, 14697, 63300, 100000);
 }
 
 /* Refused, each by its own number, with the record as it was; and the list's end. */
@@ -561,7 +655,8 @@ static void swaps(void)
 }
 
 /* The cut of a swap in euros by the deal's amount of 1,000,000, not its exposure,
- * which is raised; with the condition the whole amount is the value. */
+ * which is raised; what it takes is all that is not the value, above the deal's amount
+ * too. With the condition the whole amount is the value. */
 static void cut(void)
 {
   static const uint64_t figures[][2] = {
@@ -583,8 +678,325 @@ static void cut(void)
     IS(deal.guarantees[0].instrument, HADLEPHOGA_SWAP_WITHOUT_RESTRUCTURING);
     IS(deal.guarantees[1].instrument, HADLEPHOGA_SWAP_WITH_RESTRUCTURING);
     reported(&deal, &marked);
-    IS(marked.report.guarantees[0].value, figures[i][1]);
-    IS(marked.report.guarantees[1].value, figures[i][0]);
+    WENT(marked.report.guarantees[0], figures[i][1], 0, 0, figures[i][0] - figures[i][1]);
+    WENT(marked.report.guarantees[1], figures[i][0], 0, 0, 0);
+  }
+}
+
+/* Where the value went: a loan revalued daily, against cash of 1,000,000 that is
+ * short, in dollars, and both; with swaps of 1,500,000 without the condition, in euros
+ * and in dollars for a shorter term. */
+static void losses(void)
+{
+  struct hadlephoga_deal deal;
+  struct marked_report marked;
+  size_t i;
+
+  memset(&deal, 0, sizeof deal);
+  deal.terms = repo();
+  deal.terms.kind = 3;
+  deal.terms.interval = deal.terms.lent_type = 1;
+  deal.terms.lent_step = deal.terms.lent_issue_life = 0;
+  deal.collateral_count = 3;
+  deal.guarantee_count = 2;
+  for (i = 0; i < 3; i++) {
+    deal.collateral[i] = paper(1000000);
+    deal.collateral[i].type = 1;
+    deal.collateral[i].step = deal.collateral[i].issue_life = 0;
+  }
+  deal.guarantees[0] = deal.guarantees[1] = held_promise(1500000, HADLEPHOGA_SWAP_WITHOUT_RESTRUCTURING);
+  deal.collateral[0].residual_term = deal.collateral[2].residual_term = deal.guarantees[1].residual_term = 900;
+  deal.collateral[1].currency = deal.collateral[2].currency = deal.guarantees[1].currency = 840;
+  reported(&deal, &marked);
+  /* x 810 / 1,710. */
+  WENT(marked.report.collateral[0], 473684, 0, 526316, 0);
+  /* 80,000 at n 20 is 113,138. */
+  WENT(marked.report.collateral[1], 886862, 113138, 0, 0);
+  WENT(marked.report.collateral[2], 420092, 113138, 466770, 0);
+  WENT(marked.report.guarantees[0], 600000, 0, 0, 900000);
+  /* 600,000 less 80,000 millionths is 552,000. */
+  WENT(marked.report.guarantees[1], 261473, 48000, 290527, 900000);
+  IS(marked.report.exposure, 0);
+}
+
+/* Every place of a report: deals of sixteen items in both lists, with every number of
+ * their reports worked out here. */
+
+#define FULL_DEALS 4
+
+struct full_deal {
+  struct hadlephoga_deal deal;
+  struct hadlephoga_report due;
+};
+
+/* Cash and promises are in dollars, so that 8 percent go off at a holding period of
+ * ten days, and for 900 of the deal's 1,800 days, which leaves 810 / 1,710. The
+ * counterparty weighs 150, the providers 50. */
+static struct full_deal filled(uint64_t pledged, uint64_t promised)
+{
+  struct full_deal full;
+  uint64_t i;
+
+  memset(&full, 0, sizeof full);
+  full.deal.terms = repo();
+  full.deal.terms.amount = 100000000;
+  full.deal.terms.kind = 2;
+  full.deal.terms.interval = full.deal.terms.lent_type = 1;
+  full.deal.terms.lent_step = full.deal.terms.lent_issue_life = 0;
+  full.deal.collateral_count = full.deal.guarantee_count = HADLEPHOGA_ITEMS;
+  for (i = 0; i < HADLEPHOGA_ITEMS; i++) {
+    struct hadlephoga_collateral *cash = &full.deal.collateral[i];
+    struct hadlephoga_held_guarantee *held = &full.deal.guarantees[i];
+
+    *cash = paper(pledged + 1009 * i);
+    cash->type = 1;
+    cash->step = cash->issue_life = 0;
+    *held = held_promise(promised + 1013 * i, HADLEPHOGA_SWAP_WITHOUT_RESTRUCTURING);
+    cash->currency = held->currency = 840;
+    cash->residual_term = held->residual_term = 900;
+    cash->original_term = held->original_term = 1080;
+  }
+  return full;
+}
+
+/* What becomes of an amount, each step taking its part of what the one before left. */
+static struct hadlephoga_outcome valued(uint64_t amount, uint64_t after_cut)
+{
+  const uint64_t after_haircut = after_cut * 92 / 100;
+  struct hadlephoga_outcome outcome;
+
+  outcome.value = after_haircut * 810 / 1710;
+  outcome.ground = outcome.left_out = 0;
+  outcome.haircut_loss = after_cut - after_haircut;
+  outcome.maturity_loss = after_haircut - outcome.value;
+  outcome.cut_loss = amount - after_cut;
+  return outcome;
+}
+
+/* E*, the portions, the rest and the weighted amount from the values that are due. */
+static void cover(struct full_deal *full)
+{
+  struct hadlephoga_report *due = &full->due;
+  uint64_t pledged = 0;
+  uint64_t hundredfold = 0;
+  size_t i;
+
+  for (i = 0; i < HADLEPHOGA_ITEMS; i++)
+    pledged += due->collateral[i].value;
+  due->exposure = due->rest = pledged < full->deal.terms.amount ? full->deal.terms.amount - pledged : 0;
+  for (i = 0; i < HADLEPHOGA_ITEMS; i++) {
+    struct hadlephoga_cover *item = &due->guarantees[i];
+
+    item->portion = item->value < due->rest ? item->value : due->rest;
+    due->rest -= item->portion;
+    hundredfold += item->portion * 50;
+  }
+  due->weighted_amount = (hundredfold + due->rest * 150 + 99) / 100;
+}
+
+/* Valued in every place; the instruments are mixed, or all have a cut. */
+static struct full_deal all_valued(uint64_t pledged, uint64_t promised, int mixed)
+{
+  struct full_deal full = filled(pledged, promised);
+  uint64_t i;
+
+  for (i = 0; i < HADLEPHOGA_ITEMS; i++) {
+    struct hadlephoga_held_guarantee *held = &full.deal.guarantees[i];
+    struct hadlephoga_outcome outcome;
+
+    if (mixed)
+      held->instrument = i % 3;
+    outcome = valued(held->amount, held->instrument == HADLEPHOGA_SWAP_WITHOUT_RESTRUCTURING
+                                       ? held->amount * 60 / 100 : held->amount);
+    memcpy(&full.due.guarantees[i], &outcome, sizeof outcome);
+    full.due.collateral[i] = valued(full.deal.collateral[i].amount, full.deal.collateral[i].amount);
+  }
+  cover(&full);
+  return full;
+}
+
+/* Makes an item fall under a ground, and gives that. */
+static uint64_t leave_out_pledge(struct hadlephoga_collateral *item, uint64_t which)
+{
+  switch (which) {
+  case 0:
+    item->lawful = 0;
+    return 21;
+  case 1:
+    item->unrelated = 0;
+    return 22;
+  case 2:
+    item->unreflected = 0;
+    return 23;
+  case 3:
+    item->type = 6;
+    item->step = item->issue_life = 1;
+    return 24;
+  case 4:
+    item->residual_term = item->original_term = 359;
+    return 25;
+  default:
+    item->residual_term = 90;
+    return 26;
+  }
+}
+
+static uint64_t leave_out_promise(struct hadlephoga_held_guarantee *item, uint64_t which)
+{
+  switch (which) {
+  case 0:
+    item->lawful = 0;
+    return 21;
+  case 1:
+    item->direct = 0;
+    return 27;
+  case 2:
+    item->unreflected = 0;
+    return 23;
+  case 3:
+    item->provider_class = 3;
+    item->step = 0;
+    return 28;
+  case 4:
+    item->residual_term = item->original_term = 359;
+    return 25;
+  case 5:
+    item->residual_term = 90;
+    return 26;
+  default:
+    item->step = 6;
+    return 29;
+  }
+}
+
+/* Left out in every place. A ground is that of several items, so that there are two
+ * such deals: no two items have the same ground in both. */
+static struct full_deal all_left_out(uint64_t pledged, uint64_t promised, int second)
+{
+  struct full_deal full = filled(pledged, promised);
+  uint64_t i;
+
+  for (i = 0; i < HADLEPHOGA_ITEMS; i++) {
+    struct hadlephoga_collateral *cash = &full.deal.collateral[i];
+    struct hadlephoga_held_guarantee *held = &full.deal.guarantees[i];
+
+    held->instrument = i % 3;
+    full.due.collateral[i].ground = leave_out_pledge(cash, second ? i / 6 : i % 6);
+    full.due.collateral[i].left_out = cash->amount;
+    full.due.guarantees[i].ground = leave_out_promise(held, second ? 3 + i / 7 : i % 7);
+    full.due.guarantees[i].left_out = held->amount;
+  }
+  cover(&full);
+  return full;
+}
+
+/* The report is the one that is due, place by place. */
+static void every_number(const struct hadlephoga_report *found, const struct hadlephoga_report *due)
+{
+  uint64_t numbers[2][HADLEPHOGA_REPORT_LENGTH];
+  char name[32];
+  size_t place;
+
+  memcpy(numbers[0], found, sizeof *found);
+  memcpy(numbers[1], due, sizeof *due);
+  for (place = 0; place < HADLEPHOGA_REPORT_LENGTH; place++) {
+    snprintf(name, sizeof name, "place %u of a report", (unsigned)place);
+    is(__LINE__, name, numbers[0][place], numbers[1][place]);
+  }
+}
+
+/* Any two places differ in one of the reports that are due, so that a library which
+ * exchanged them would be seen. Only what a cut takes from collateral is 0 in all. */
+static void told_apart(const struct full_deal *full)
+{
+  uint64_t numbers[FULL_DEALS][HADLEPHOGA_REPORT_LENGTH];
+  uint64_t alike = 0;
+  size_t first, second, i;
+
+  for (i = 0; i < FULL_DEALS; i++)
+    memcpy(numbers[i], &full[i].due, sizeof full[i].due);
+  for (first = 0; first < HADLEPHOGA_REPORT_LENGTH; first++)
+    for (second = first + 1; second < HADLEPHOGA_REPORT_LENGTH; second++) {
+      for (i = 0; i < FULL_DEALS && numbers[i][first] == numbers[i][second]; i++)
+        continue;
+      alike += i == FULL_DEALS;
+    }
+  IS(alike, HADLEPHOGA_ITEMS * (HADLEPHOGA_ITEMS - 1) / 2);
+}
+
+/* With fewer items counted, their numbers stand in the places where they stood. */
+static void fewer_counted(struct full_deal full)
+{
+  struct marked_report marked;
+  uint64_t count, i;
+
+  for (count = 0; count <= HADLEPHOGA_ITEMS; count++) {
+    full.deal.collateral_count = count;
+    full.deal.guarantee_count = HADLEPHOGA_ITEMS - count;
+    reported(&full.deal, &marked);
+    for (i = 0; i < HADLEPHOGA_ITEMS; i++) {
+      struct hadlephoga_outcome found = i < count ? marked.report.collateral[i]
+                                                  : outcome_of(&marked.report.guarantees[i - count]);
+      struct hadlephoga_outcome due = i < count ? full.due.collateral[i] : outcome_of(&full.due.guarantees[i - count]);
+
+      IS((uint64_t)memcmp(&found, &due, sizeof due), 0);
+    }
+  }
+}
+
+static void every_place(void)
+{
+  struct full_deal full[FULL_DEALS];
+  struct marked_report marked;
+  size_t i;
+
+  /* Covered by every item with a rest left, so that portions differ; and by collateral
+   * alone, so that no portion is its item's value. */
+  full[0] = all_valued(1000003, 3000017, 0);
+  full[1] = all_valued(20000003, 2000003, 1);
+  full[2] = all_left_out(5000011, 7000003, 0);
+  full[3] = all_left_out(6000011, 8000009, 1);
+  told_apart(full);
+  for (i = 0; i < FULL_DEALS; i++) {
+    reported(&full[i].deal, &marked);
+    every_number(&marked.report, &full[i].due);
+    fewer_counted(full[i]);
+  }
+  reported(&full[0].deal, &marked);
+  /* 1,000,003 is 920,002 after the haircut; 3,000,017 is 1,800,010 after the cut and
+   * 1,656,009 after the haircut. */
+  WENT(marked.report.collateral[0], 435790, 80001, 484212, 0);
+  WENT(marked.report.guarantees[0], 784425, 144001, 871584, 1200007);
+  IS(marked.report.guarantees[0].portion, 784425);
+}
+
+/* A report has its numbers and no fewer, 83 being those of layout 3. A shorter list is
+ * refused before the record is looked at, and untouched. */
+static void report_lists(void)
+{
+  static const size_t shorter[] = {0, 1, 83, HADLEPHOGA_REPORT_LENGTH - 1};
+  struct hadlephoga_deal deal = deal_of_all_grounds(400000);
+  uint64_t record[HADLEPHOGA_RECORD_LENGTH];
+  uint64_t list[HADLEPHOGA_REPORT_LENGTH + 1];
+  uint64_t exact[HADLEPHOGA_REPORT_LENGTH];
+  size_t i, length;
+
+  memcpy(record, &deal, sizeof deal);
+  memset(list, 0xA5, sizeof list);
+  for (i = 0; i < sizeof shorter / sizeof shorter[0]; i++) {
+    IS(hadlephoga_report_deal(record, HADLEPHOGA_RECORD_LENGTH, list, shorter[i]), 13);
+    IS(hadlephoga_report_deal(record, HADLEPHOGA_RECORD_LENGTH - 1, list, shorter[i]), 13);
+    MARKS(list);
+  }
+  IS(hadlephoga_report_deal(record, HADLEPHOGA_RECORD_LENGTH, exact, HADLEPHOGA_REPORT_LENGTH), 0);
+  for (length = HADLEPHOGA_REPORT_LENGTH; length <= HADLEPHOGA_REPORT_LENGTH + 1; length++) {
+    memset(list, 0xA5, sizeof list);
+    IS(hadlephoga_report_deal(record, HADLEPHOGA_RECORD_LENGTH, list, length), 0);
+    IS((uint64_t)memcmp(list, exact, sizeof exact), 0);
+    IS(list[HADLEPHOGA_REPORT_LENGTH], MARK);
+    IS(hadlephoga_report_deal(record, HADLEPHOGA_RECORD_LENGTH - 1, list, length), 40);
+    all(__LINE__, list, sizeof exact, 0);
+    IS(list[HADLEPHOGA_REPORT_LENGTH], MARK);
   }
 }
 
@@ -594,7 +1006,7 @@ static void cut(void)
 static uint64_t weighs(uint64_t edition, uint64_t party_class, uint64_t sovereign_step)
 {
   struct hadlephoga_deal deal;
-  struct hadlephoga_report report;
+  struct marked_report marked;
   struct hadlephoga_terms terms = repo();
 
   terms.amount = 1000;
@@ -603,14 +1015,15 @@ static uint64_t weighs(uint64_t edition, uint64_t party_class, uint64_t sovereig
   terms.step = 0;
   terms.sovereign_step = sovereign_step;
   IS(hadlephoga_open_with(&terms, &deal), 0);
-  IS(hadlephoga_report_of(&deal, &report), 0);
-  return report.weighted_amount / 10;
+  reported(&deal, &marked);
+  return marked.report.weighted_amount / 10;
 }
 
 static uint64_t provides(uint64_t edition, uint64_t sovereign_step)
 {
   struct hadlephoga_deal deal;
-  struct hadlephoga_report report;
+  struct marked_report marked;
+  const struct hadlephoga_report *report = &marked.report;
   struct hadlephoga_terms terms = repo();
   struct hadlephoga_guarantee guarantee = promise(1000);
 
@@ -621,9 +1034,9 @@ static uint64_t provides(uint64_t edition, uint64_t sovereign_step)
   guarantee.sovereign_step = sovereign_step;
   IS(hadlephoga_open_with(&terms, &deal), 0);
   IS(hadlephoga_add_guarantee_to(&deal, &guarantee), 0);
-  IS(hadlephoga_report_of(&deal, &report), 0);
-  IS(report.guarantees[0].ground, report.weighted_amount == 1500 ? 29 : 0);
-  return report.weighted_amount / 10;
+  reported(&deal, &marked);
+  IS(report->guarantees[0].ground, report->weighted_amount == 1500 ? 29 : 0);
+  return report->weighted_amount / 10;
 }
 
 static void floors(void)
@@ -669,17 +1082,17 @@ static void tables_of_2023(void)
   for (i = 0; i < sizeof pledges / sizeof pledges[0]; i++) {
     struct hadlephoga_collateral pledge = paper(1000000);
     struct hadlephoga_deal deal;
-    struct hadlephoga_report report;
+    struct marked_report marked;
 
     pledge.type = pledges[i].type;
     pledge.issue_life = pledges[i].life;
     pledge.step = pledges[i].life == 0 ? 0 : 1;
     IS(hadlephoga_open_with(&terms, &deal), 0);
     IS(hadlephoga_add_collateral_to(&deal, &pledge), 0);
-    IS(hadlephoga_report_of(&deal, &report), 0);
-    IS(report.collateral[0].value, pledges[i].value);
+    reported(&deal, &marked);
+    WENT(marked.report.collateral[0], pledges[i].value, 1000000 - pledges[i].value, 0, 0);
     /* Raised by 300,000. */
-    IS(report.exposure, 1300000 - pledges[i].value);
+    IS(marked.report.exposure, 1300000 - pledges[i].value);
     IS(deal.terms.edition, 3);
   }
 }
@@ -891,6 +1304,9 @@ int main(void)
   built();
   swaps();
   cut();
+  losses();
+  every_place();
+  report_lists();
   floors();
   tables_of_2023();
   refused_sovereigns_and_editions();

@@ -1,7 +1,7 @@
 /*
  * Credit-risk relief of a book of deals, or of one deal: haircuts, recognised
- * values, covered portions and weighted amounts under CRE20 and CRE22, with the
- * tables of 2019 or of 2023.
+ * values and what was lost on the way to them, covered portions and weighted
+ * amounts under CRE20 and CRE22, with the tables of 2019 or of 2023.
  *
  * Link with libhadlephoga.a, and compare HADLEPHOGA_LAYOUT with
  * hadlephoga_layout() before anything else: where they differ, header and
@@ -37,6 +37,11 @@ extern "C" {
  *      still added by ten numbers. Refusal 40 now falls on an unknown instrument
  *      too; a book's line S, which was 11, is taken. A program built for layout 2
  *      is refused, by 13 or 40, wherever it passes a record.
+ *   4  where an item's value went: behind its value and ground stand what the
+ *      haircut, the maturity and a swap's cut took of it, and what is left out; a
+ *      portion stands behind these: outcome 6, cover 7, report 211. Figures,
+ *      grounds, records and refusals are as they were. A program built for layout 3
+ *      lends 83 numbers for a report, which is refused by 13, and nothing is written.
  *
  * The rule of change. The layout is how many numbers there are of terms, of an
  * item, of a record and of a report, their order and what each of them means; the
@@ -47,7 +52,7 @@ extern "C" {
  * what was refused may be taken later. An operation that is new beside the others
  * leaves the number alone.
  */
-#define HADLEPHOGA_LAYOUT 3
+#define HADLEPHOGA_LAYOUT 4
 
 /* The layout of numbers that the library has. */
 uint64_t hadlephoga_layout(void);
@@ -62,8 +67,8 @@ uint64_t hadlephoga_layout(void);
 #define HADLEPHOGA_GUARANTEE_WIDTH 10                                    /* as it is sent */
 #define HADLEPHOGA_SWAP_WIDTH (HADLEPHOGA_GUARANTEE_WIDTH + 1)           /* as it is sent */
 #define HADLEPHOGA_HELD_GUARANTEE_WIDTH (HADLEPHOGA_GUARANTEE_WIDTH + 1) /* either, in a record */
-#define HADLEPHOGA_OUTCOME_WIDTH 2 /* that report an item of collateral */
-#define HADLEPHOGA_COVER_WIDTH 3   /* that report a guarantee or a swap */
+#define HADLEPHOGA_OUTCOME_WIDTH 6                                       /* that report an item of collateral */
+#define HADLEPHOGA_COVER_WIDTH (HADLEPHOGA_OUTCOME_WIDTH + 1)            /* that report a guarantee or a swap */
 
 /* Of a record: the terms, and each list's count and places. */
 #define HADLEPHOGA_RECORD_LENGTH \
@@ -273,26 +278,42 @@ struct hadlephoga_deal {
   struct hadlephoga_held_guarantee guarantees[HADLEPHOGA_ITEMS];
 };
 
-/* What an item of collateral is worth. The ground is 0 where it is valued;
- * where it is left out, its value is 0 and the ground the first that applies:
- * 21 not lawful, 22 related, 23 already in the rating, 24 not eligible by type
- * and step, 25 mismatch with original term under 360, 26 mismatch with residual
- * term of 90 or less. */
+/* What an item of collateral is worth, and where the rest of its amount went. From
+ * the amount that was sent to the value there are three steps: a swap's cut, the
+ * haircut, the maturity. A loss is what its step took of what it found, what was
+ * rounded down included. Where the item is valued, the ground and left_out are 0 and
+ *
+ *   value + haircut_loss + maturity_loss + cut_loss = the amount that was sent.
+ *
+ * Where it is left out, left_out is the whole amount that was sent, value and losses
+ * are 0, and the ground is the first that applies: 21 not lawful, 22 related, 23
+ * already in the rating, 24 not eligible by type and step, 25 mismatch with original
+ * term under 360, 26 mismatch with residual term of 90 or less. */
 struct hadlephoga_outcome {
   uint64_t value;
   uint64_t ground;
+  uint64_t haircut_loss;  /* by the haircuts of the goods and of another currency */
+  uint64_t maturity_loss; /* by a term that is shorter than the deal's */
+  uint64_t cut_loss;      /* 0: collateral is not cut */
+  uint64_t left_out;
 };
 
-/* What a guarantee or a swap is worth, and the part of E* that it covers. Grounds:
- * 21, 27 not direct, 23, 28 other entity unrated, 25, 26, 29 provider's weight not
- * below the counterparty's, both with their floors. */
+/* The same of a guarantee or a swap, and the part of E* that it covers, 0 where it is
+ * left out. A swap without its condition loses by the cut all but the 60 percent that
+ * count, what stands above the deal's amount included; a guarantee, and a swap with
+ * the condition, lose 0. Grounds: 21, 27 not direct, 23, 28 other entity unrated, 25,
+ * 26, 29 provider's weight not below the counterparty's, both with their floors. */
 struct hadlephoga_cover {
   uint64_t value;
   uint64_t ground;
+  uint64_t haircut_loss; /* by the haircut of another currency */
+  uint64_t maturity_loss;
+  uint64_t cut_loss;
+  uint64_t left_out;
   uint64_t portion;
 };
 
-/* A deal's report: items in order of adding, zeros past a count. */
+/* A deal's report: items in order of adding, zeros in every number past a count. */
 struct hadlephoga_report {
   uint64_t exposure; /* E* */
   struct hadlephoga_outcome collateral[HADLEPHOGA_ITEMS];

@@ -16,10 +16,14 @@ const GUARANTEE_COUNT: usize = FIRST_COLLATERAL + Deal::COLLATERAL_LIMIT * COLLA
 
 pub const RECORD_LENGTH: usize = GUARANTEE_COUNT + 1 + Deal::GUARANTEE_LIMIT * GUARANTEE_WIDTH;
 
-// Of an item of collateral a report has the value and the ground, of a guarantee the portion too.
-const FIRST_COVER: usize = 1 + Deal::COLLATERAL_LIMIT * 2;
+// Of an item of collateral a report has the value, the ground, three losses and the amount left out, of a guarantee the portion too.
+const OUTCOME_WIDTH: usize = 6;
 
-const REST: usize = FIRST_COVER + Deal::GUARANTEE_LIMIT * 3;
+const COVER_WIDTH: usize = OUTCOME_WIDTH + 1;
+
+const FIRST_COVER: usize = 1 + Deal::COLLATERAL_LIMIT * OUTCOME_WIDTH;
+
+const REST: usize = FIRST_COVER + Deal::GUARANTEE_LIMIT * COVER_WIDTH;
 
 // With places behind the report, which reporting does not write.
 pub const REPORT_PLACES: usize = REST + 6;
@@ -110,8 +114,8 @@ pub fn record(refusal: u64, list: &[u64]) {
 pub fn report(refusal: u64, list: &[u64]) {
     number(b"=", refusal);
     rows(list, 0, 1, 1);
-    rows(list, 1, FIRST_COVER, 2);
-    rows(list, FIRST_COVER, REST, 3);
+    rows(list, 1, FIRST_COVER, OUTCOME_WIDTH);
+    rows(list, FIRST_COVER, REST, COVER_WIDTH);
     rows(list, REST, REST + 1, 1);
     rows(list, REST + 1, REST + 2, 1);
     rows(list, REST + 2, list.len(), 1);

@@ -1,35 +1,36 @@
 -- Credit derivatives count for what they should, and take no answer from a book without them. Assumes nothing.
-use Prim.Native.Nat.{ℕ, _*_, _/_, _≤_, min}
+use Prim.Native.Nat.{ℕ, _≤_}
 use mathlib.Core.Path.{_≡_, refl, sym, _∙_}
 use mathlib.Core.Bool.{Bool, Bool·beq, true, false, not, _&&_}
 use mathlib.Core.List.{List, [], _∷_, _++_, map}
 use native.Mathlib.Omega.{arith}
-use borrow.Author.Tests.{eq-eqb, le-leb, lt-leb}
+use borrow.Author.Tests.{le-leb, lt-leb}
 use lib.Dec.{eqb}
 use lib.ListN.{drop, replicate, take}
 use Rattle.base.specs.Choice.{if_then_else_}
 use Rattle.base.specs.FirstMet.{Test, _when_, firstMet, firstOr}
-use Rattle.base.proofs.Choice.{if-false, if-true}
+use Rattle.base.proofs.Choice.{if-false}
 use Rattle.base.proofs.Every.{every}
 use Rattle.tables.specs.Table.{Table}
 use Rattle.scaling.specs.Period.{guaranteePeriod}
 use Rattle.valuation.specs.Haircuts.{scaledCurrencyHaircut}
 use Rattle.valuation.specs.Protection.{recognised}
+use Rattle.valuation.specs.Valuation.{valuationOf}
 use Rattle.valuation.specs.Restructuring.{partiallyRecognised}
 use Rattle.text.specs.Bytes.{byte, bytes}
 use Rattle.deal.specs.Adding.{addGuaranteeRefusal, addGuaranteeTests, addSwapRefusal, withGuarantee}
 use Rattle.deal.specs.Fields.{guaranteeIn, swapSent, termsIn}
 use Rattle.deal.specs.Guarantees.{guaranteeListTests, guaranteeTests}
-use Rattle.deal.specs.Instruments.{asSwap, guaranteeInstrument, instrumentAllowed, swapWith, swapWithoutRestructuring}
+use Rattle.deal.specs.Instruments.{asSwap, guaranteeInstrument, instrumentAllowed, swapWith}
 use Rattle.deal.specs.Records.{dealWith}
 use Rattle.deal.specs.Ranges.{conditionAllowed}
 use Rattle.deal.specs.declared.terms.Terms.{Terms}
 use Rattle.deal.specs.declared.guarantee.Guarantee.{Guarantee}
 use Rattle.deal.specs.declared.deal.Deal.{Deal}
-use Rattle.relief.specs.Guarantees.{guaranteeGround, guaranteeGrounds, guaranteeOutcome, guaranteeValue, hedgedAmount, protectionOf}
+use Rattle.relief.specs.Guarantees.{guaranteeGround, guaranteeGrounds, guaranteeOutcome, guaranteeValuation, hedgedAmount, protectionOf}
 use Rattle.relief.specs.Outcomes.{outcomeFor}
 use Rattle.relief.specs.Report.{reportOf}
-use Rattle.relief.proofs.Hedged.{hedged-whole}
+use Rattle.relief.proofs.Hedged.{hedged-cut, hedged-whole}
 use Rattle.lines.specs.Fields.{fieldsOf}
 use Rattle.lines.specs.Lines.{ifRead, lineOf, swapLine}
 use Rattle.lines.specs.Sovereign.{widthUnder, withSovereign}
@@ -48,12 +49,8 @@ use Rattle.claims.specs.CreditDerivatives.{CreditDerivatives, filled, gu
 
 -- What of a swap is hedged
 
-without : (t : Terms) (g : Guarantee) → g .instrument ≡ swapWithoutRestructuring → hedgedAmount t g ≡ min (g .amount) (t .amount) * 60 / 100
-unfolding hedgedAmount partiallyRecognised
-without t g e = if-true _ _ _ (eq-eqb _ _ e)
-
-value-met : (t : Terms) (g : Guarantee) → g .instrument ≡ guaranteeInstrument → guaranteeValue t (asSwap 1 g) ≡ guaranteeValue t g
-unfolding guaranteeValue hedgedAmount if_then_else_
+value-met : (t : Terms) (g : Guarantee) → g .instrument ≡ guaranteeInstrument → guaranteeValuation t (asSwap 1 g) ≡ guaranteeValuation t g
+unfolding guaranteeValuation hedgedAmount if_then_else_
 value-met t g e = rw e
 
 outcome-met : (table : Table) (t : Terms) (g : Guarantee) → g .instrument ≡ guaranteeInstrument → guaranteeOutcome table t (asSwap 1 g) ≡ guaranteeOutcome table t g
@@ -68,13 +65,13 @@ grounds : (table : Table) (t : Terms) (restructuring : ℕ) (g : Guarantee) → 
 unfolding guaranteeGround guaranteeGrounds
 grounds table t restructuring g = refl
 
-outcome-is : (table : Table) (t : Terms) (g : Guarantee) → guaranteeOutcome table t g ≡ outcomeFor (guaranteeGround table t g) (guaranteeValue t g)
+outcome-is : (table : Table) (t : Terms) (g : Guarantee) → guaranteeOutcome table t g ≡ outcomeFor (guaranteeGround table t g) (g .amount) (guaranteeValuation t g)
 unfolding guaranteeOutcome
 outcome-is table t g = refl
 
 after-cut : (t : Terms) (g : Guarantee) →
-    guaranteeValue t g ≡ recognised (hedgedAmount t g) (scaledCurrencyHaircut (g .currency) (t .currency) (guaranteePeriod (t .interval))) (g .residual) (t .residual)
-unfolding guaranteeValue
+    guaranteeValuation t g .value ≡ recognised (hedgedAmount t g) (scaledCurrencyHaircut (g .currency) (t .currency) (guaranteePeriod (t .interval))) (g .residual) (t .residual)
+unfolding guaranteeValuation valuationOf
 after-cut t g = refl
 
 -- Lines
@@ -171,7 +168,7 @@ credit-derivatives = record {
   opening-same = λ t. (sym (opening-now t) ∙ opening-same t, sym (opened-now t) ∙ opened-same t);
   adding-collateral-same = λ d c a. (sym (adding-collateral-now d c) ∙ adding-collateral-same d (accepted-now d ∙ a) c, sym (with-collateral-now d c) ∙ with-collateral-same d (accepted-now d ∙ a) c);
   adding-guarantee-same = λ d g a k. (sym (adding-guarantee-now d g) ∙ adding-guarantee-same d (accepted-now d ∙ a) g k, sym (with-guarantee-now d g) ∙ with-guarantee-same d (accepted-now d ∙ a) g k);
-  without-condition = without;
+  without-condition = hedged-cut;
   whole-amount = hedged-whole;
   in-all-but-its-letter = but-its-letter;
   grounds-same = grounds;

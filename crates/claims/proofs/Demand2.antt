@@ -1,9 +1,10 @@
 -- Demand 2 is met. Assumes nothing.
 use Prim.Native.Nat.{ℕ, _+_, _*_, _-_, _/_, _≤_, _<_, min}
-use mathlib.Core.Path.{_≡_, sym, ap, _∙_}
-use mathlib.Core.Bool.{true, not}
+use mathlib.Core.Path.{_≡_, refl, sym, ap, _∙_}
+use mathlib.Core.Bool.{true, not, _&&_}
 use native.Mathlib.Nat.{div-add-mod', mod-lt}
 use native.Mathlib.Omega.{arith}
+use lib.Dec.{leb, ltb}
 use Rattle.tables.specs.Eligibility.{excluded}
 use Rattle.tables.specs.Haircuts.{bandOf, haircut, lentHaircut}
 use Rattle.tables.specs.Table.{Goods}
@@ -20,6 +21,7 @@ use Rattle.deal.specs.declared.terms.Terms.{Terms}
 use Rattle.deal.specs.declared.deal.Deal.{Deal}
 use Rattle.valuation.proofs.PartialRecognition.{partial-is}
 use Rattle.relief.specs.Exposure.{adjustedExposureOf, collateralTotal, exposureAfter, piecesOf, riskWeightedAmountOf}
+use Rattle.relief.specs.Maturity.{shortOriginal, shortResidual}
 use Rattle.relief.specs.Weights.{counterpartyWeightOf}
 use Rattle.relief.proofs.ByNumber.{collateral-by-number, guarantees-by-number}
 use Rattle.relief.proofs.Reports.{exposure-of, report-accepted, rwa-of}
@@ -30,7 +32,7 @@ use Rattle.relief.specs.Report.{reportOf}
 use Rattle.relief_laws.proofs.Grounds.{collateral-ground, guarantee-ground}
 use Rattle.relief_laws.proofs.Reports.{left-out-covers-zero, report-conserved, reported-exposure-bound}
 use Rattle.relief_laws.proofs.Rounded.{adjusted-exposure-is, risk-weighted-is}
-use Rattle.relief_laws.proofs.Values.{adjusted-value-is, left-out-value}
+use Rattle.relief_laws.proofs.Values.{adjusted-value-is, left-out-nothing, maturity-adjusted-matched, maturity-adjusted-mismatched}
 use Rattle.starred.proofs.Starred.{starred-right}
 use Rattle.claims.specs.Demand2.{ByThreeBands, Demand2}
 
@@ -76,6 +78,14 @@ eligibility : (t : Terms) (goods step listed : ℕ) → Goods goods → step ≤
 unfolding tableFor
 eligibility t goods step listed g s l = eligible-same (t .edition) goods step listed ∙ eligible-as-listed goods step listed g s l
 
+original-short : (t : Terms) (residual original : ℕ) → shortOriginal t residual original ≡ (ltb residual (t .residual) && ltb original 360)
+unfolding shortOriginal
+original-short t residual original = refl
+
+residual-short : (t : Terms) (residual : ℕ) → shortResidual t residual ≡ (ltb residual (t .residual) && leb residual 90)
+unfolding shortResidual
+residual-short t residual = refl
+
 pub demand-2 : Demand2
 demand-2 = record {
   full = λ d e. report-accepted (tableFor (d .terms)) d e;
@@ -84,7 +94,11 @@ demand-2 = record {
   exposure = exposure-made;
   weighted = amount-made;
   keep-none = none-kept;
+  matched = maturity-adjusted-matched;
+  mismatch = maturity-adjusted-mismatched;
   mismatch-down = mismatch-rounded;
+  short-original = original-short;
+  short-residual = residual-short;
   eligibility = eligibility;
   figures = starred-right;
   bands = λ goods step life. (by-bands (haircut goods step) (haircut-sample goods step) life, by-bands (lentHaircut goods step) (lent-sample goods step) life);
@@ -95,7 +109,7 @@ demand-2 = record {
   weighted-up = risk-weighted-is;
   collateral-ground = λ t c. collateral-ground (tableFor t) t c;
   guarantee-ground = λ t g. guarantee-ground (tableFor t) t g;
-  left-out = left-out-value;
+  left-out = left-out-nothing;
   covers-none = λ d place. left-out-covers-zero (tableFor (d .terms)) d place;
   rising-order = in-rising-order;
   conserved = λ d. report-conserved (tableFor (d .terms)) d;

@@ -3,7 +3,8 @@
 -- the swap and the deal's amount. Currency and maturity follow as for a guarantee, with its grounds. Swaps and guarantees share the list of sixteen
 -- and cover in a single order of weight. The rule on betterments now includes swaps and this condition. (A line S is refused as a G is.)"
 --
--- `beforeSwaps` is the set of rules before this request, as they stood (earlier/specs/BeforeSwaps). What ends in By is a definition of opening,
+-- `beforeSwaps` is the set of rules before this request, as they stood (earlier/specs/BeforeSwaps), with the losses that reports have since 02: L2 on
+-- both sides. What ends in By is a definition of opening,
 -- adding, reporting or answering a book by a set of rules; by the rules in force it is the one that contracts name (the fields ending in -now of
 -- claims/specs/SovereignFloor). Each item of the list of guarantees has an instrument: 0 a guarantee, 1 a swap without the condition, 2 one with it
 -- (deal/specs/Instruments). The order of cover is `rising-order` of claims/specs/Demand2, over the pieces of guarantees and swaps alike; the rule on
@@ -33,7 +34,7 @@ use Rattle.deal.specs.declared.terms.Terms.{Terms}
 use Rattle.deal.specs.declared.collateral.Collateral.{Collateral}
 use Rattle.deal.specs.declared.guarantee.Guarantee.{Guarantee}
 use Rattle.deal.specs.declared.deal.Deal.{Deal}
-use Rattle.relief.specs.Guarantees.{guaranteeGround, guaranteeOutcome, guaranteeValue, hedgedAmount, protectionOf}
+use Rattle.relief.specs.Guarantees.{guaranteeGround, guaranteeOutcome, guaranteeValuation, hedgedAmount, protectionOf}
 use Rattle.relief.specs.Exposure.{piecesOf}
 use Rattle.relief.specs.Outcomes.{outcomeFor, outcomeValue}
 use Rattle.relief.specs.Report.{reportOf}
@@ -163,10 +164,10 @@ pub record CreditDerivatives : Type 0 where
   pub grounds-same : (table : Table) (t : Terms) (restructuring : ℕ) (g : Guarantee) → guaranteeGround table t (asSwap restructuring g) ≡ guaranteeGround table t g
   -- "Currency and maturity follow as for a guarantee": the amount that is hedged, then the haircut over the guarantees' period, then the mismatch
   pub value-after : (t : Terms) (g : Guarantee) →
-      guaranteeValue t g
+      guaranteeValuation t g .value
       ≡ recognised (hedgedAmount t g) (scaledCurrencyHaircut (g .currency) (t .currency) (guaranteePeriod (t .interval))) (g .residual) (t .residual)
-  -- that value, or its ground, is what is reported of it
-  pub outcome-of : (table : Table) (t : Terms) (g : Guarantee) → guaranteeOutcome table t g ≡ outcomeFor (guaranteeGround table t g) (guaranteeValue t g)
+  -- that value, or its ground, is what is reported of it (with where the rest went: claims/specs/Losses)
+  pub outcome-of : (table : Table) (t : Terms) (g : Guarantee) → guaranteeOutcome table t g ≡ outcomeFor (guaranteeGround table t g) (g .amount) (guaranteeValuation t g)
   -- and it covers with that value at its provider's own weight
   pub covers-with : (table : Table) (t : Terms) (g : Guarantee) →
       protectionOf table t g ≡ record { value = outcomeValue (guaranteeOutcome table t g); weight = providerWeightOf table g }

@@ -6,12 +6,14 @@
 -- `book::answer::answer_book` says that a book's answers are made of those figures. docs/TRACE.md goes from each sentence of document 01 to its
 -- definition. The cells of the tables of 2019, the minimum holding periods and the like are read in those definitions and not proved. Under edition 2
 -- weights have the floor of 02: L5 (claims/specs/SovereignFloor); under edition 3 figures are those of 02: L9, "demand 2 means it for these
--- members" (claims/specs/Tables2023). What of a swap is hedged is 02: L1 (claims/specs/CreditDerivatives). What follows is proved of the definitions, for deals of every edition.
+-- members" (claims/specs/Tables2023). What of a swap is hedged is 02: L1 (claims/specs/CreditDerivatives); where the value of an item went is 02: L2 (claims/specs/Losses).
+-- What follows is proved of the definitions, for deals of every edition.
 use Prim.Native.Nat.{ℕ, _+_, _*_, _-_, _≤_, _<_, min}
 use mathlib.Core.Path.{_≡_}
 use mathlib.Core.Logic.{_≢_}
-use mathlib.Core.Bool.{true, not}
+use mathlib.Core.Bool.{true, not, _&&_}
 use mathlib.Core.List.{List, map}
+use lib.Dec.{leb, ltb}
 use lib.ListN.{getD}
 use Rattle.base.specs.Least.{Least}
 use Rattle.base.specs.Sum.{sumOf}
@@ -21,8 +23,9 @@ use Rattle.tables.specs.Haircuts.{haircut, lentHaircut}
 use Rattle.tables.specs.Table.{Goods}
 use Rattle.scaling.specs.Scaling.{IsScaled, scaled}
 use Rattle.valuation.specs.Exposure.{riskWeightedAmount, volatilityAdjustedExposure}
-use Rattle.valuation.specs.Protection.{keepShare, mismatched, volatilityAdjustedValue}
+use Rattle.valuation.specs.Protection.{keepShare, maturityAdjusted, mismatched, volatilityAdjustedValue}
 use Rattle.valuation.specs.Restructuring.{partiallyRecognised}
+use Rattle.valuation.specs.Valuation.{noValuation}
 use Rattle.cover.specs.Cover.{covered, weightedSum}
 use Rattle.cover.specs.declared.protection.Protection.{Protection}
 use Rattle.cover_laws.specs.Sorted.{pass, sort}
@@ -37,7 +40,8 @@ use Rattle.relief.specs.ByNumber.{collateralByNumber, guaranteesByNumber, place
 use Rattle.relief.specs.Collateral.{collateralGrounds, collateralOutcome}
 use Rattle.relief.specs.Exposure.{adjustedExposureOf, collateralTotal, piecesOf}
 use Rattle.relief.specs.Guarantees.{guaranteeGrounds, guaranteeOutcome}
-use Rattle.relief.specs.Outcomes.{outcomeGround, outcomeValue}
+use Rattle.relief.specs.Maturity.{shortOriginal, shortResidual}
+use Rattle.relief.specs.Outcomes.{outcomeGround, outcomeValuation, outcomeValue}
 use Rattle.relief.specs.Report.{fullReport, noGuarantee, reportOf}
 use Rattle.relief.specs.Weights.{counterpartyWeightOf}
 use Rattle.relief.specs.declared.outcome.Outcome.{Outcome}
@@ -53,7 +57,7 @@ pub record Demand2 : Type 0 where
 
   -- of an accepted deal is made of these parts, place by place; what follows is about them
   pub full : (d : Deal) → accepted d ≡ true → reportOf d ≡ fullReport (tableFor (d .terms)) (viewOf d)
-  -- for each item either its value or its ground, by number, in every place of every report
+  -- for each item either its value or its ground, with its losses or the amount left out, by number, in every place of every report
   pub collateral-reported : (d : Deal) → map (λ r. placeOf (r .outcome)) (reportOf d .collateral) ≡ collateralByNumber d
   pub guarantees-reported : (d : Deal) → map (λ r. placeOf (r .outcome)) (reportOf d .guarantees) ≡ guaranteesByNumber d
   -- E* is the exposure raised by the lent goods' haircut, less all collateral values, and never above the deal's amount
@@ -78,10 +82,12 @@ pub record Demand2 : Type 0 where
   pub scaling : (H n : ℕ) → IsScaled H n (scaled H n)
   -- haircuts that reach the whole leave nothing
   pub keep-none : (haircut : ℕ) → 1000000 ≤ haircut → keepShare haircut ≡ 0
-  -- a value is rounded down, and down again under a maturity mismatch ..
+  -- a value is rounded down, and down again under a maturity mismatch, which is cover shorter than the deal's residual term ..
   pub value-down : (amount haircut : ℕ) →
       (volatilityAdjustedValue amount haircut * 1000000 ≤ amount * keepShare haircut)
       × (amount * keepShare haircut < (volatilityAdjustedValue amount haircut + 1) * 1000000)
+  pub matched : (value cover term : ℕ) → term ≤ cover → maturityAdjusted value cover term ≡ value
+  pub mismatch : (value cover term : ℕ) → cover < term → maturityAdjusted value cover term ≡ mismatched value cover term
   pub mismatch-down : (value cover term : ℕ) → 90 < cover → cover < term →
       let T = min term 1800 in
       let t = min T cover in
@@ -104,11 +110,14 @@ pub record Demand2 : Type 0 where
       ExactFor (outcomeGround (collateralOutcome (tableFor t) t c)) (collateralGrounds (tableFor t) t c)
   pub guarantee-ground : (t : Terms) (g : Guarantee) →
       ExactFor (outcomeGround (guaranteeOutcome (tableFor t) t g)) (guaranteeGrounds (tableFor t) t g)
+  -- 25 and 26: cover ends before the deal, and ran for under 360 days from the start, or has 90 or less left
+  pub short-original : (t : Terms) (residual original : ℕ) → shortOriginal t residual original ≡ (ltb residual (t .residual) && ltb original 360)
+  pub short-residual : (t : Terms) (residual : ℕ) → shortResidual t residual ≡ (ltb residual (t .residual) && leb residual 90)
   -- 24: goods are eligible by type and step exactly where the paper's list does not exclude them
   pub eligibility : (t : Terms) (goods step listed : ℕ) → Goods goods → step ≤ 6 → listed ≤ 1 →
       tableFor t .eligible goods step listed ≡ not (excluded goods step listed)
-  -- what is left out has value 0 ..
-  pub left-out : (o : Outcome) → outcomeGround o ≢ 0 → outcomeValue o ≡ 0
+  -- what is left out has value 0, and no loss ..
+  pub left-out : (o : Outcome) → outcomeGround o ≢ 0 → outcomeValuation o ≡ noValuation
   -- .. and covers 0, in every place of every report
   pub covers-none : (d : Deal) (place : ℕ) →
       let r = getD (reportOf d .guarantees) place noGuarantee in outcomeGround (r .outcome) ≢ 0 → (outcomeValue (r .outcome) ≡ 0) × (r .portion ≡ 0)

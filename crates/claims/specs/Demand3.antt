@@ -6,7 +6,7 @@
 -- security or guarantor", "the deal's own currency", "longer residual or original cover", "a condition now met"; since 02: L5 "A better step
 -- of a guarantor's sovereign, between rated steps", not the counterparty's), for swaps as for guarantees, with `BetterGuarantee` (02: L1, "The rule on
 -- betterments now includes swaps and this condition": of a swap, restructuring from 0 to 1; that a guarantee never becomes a swap is
--- `instrument-stays`), `OneMore` ("one more item"), `BetterTerms` ("more frequent
+-- `instruments-stay`), `OneMore` ("one more item"), `BetterTerms` ("more frequent
 -- revaluation", a better step of the goods lent). "A longer life of the pledged bond itself is not one": no constructor changes it. A list of
 -- them, refused ones among them, is `Betterments`. The amount is the one in the report that `relief::report::Report::of` gives, whose contract
 -- says that it is `reportOf`.

@@ -4,5 +4,6 @@ pub mod Demand2
 pub mod Demand3
 pub mod DailyFigures
 pub mod LongerLives
+pub mod Losses
 pub mod SovereignFloor
 pub mod Tables2023

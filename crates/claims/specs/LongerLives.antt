@@ -51,7 +51,7 @@ pub record Raised (before now : ℕ) : Type 0 where
   pub accepted-before : (d : Deal) → acceptedUpTo before d ≡ (acceptedUpTo now d && dealNoneAbove before d)
   -- .. so each of them is accepted now ..
   pub still-accepted : (d : Deal) → acceptedUpTo before d ≡ true → acceptedUpTo now d ≡ true
-  -- .. with the same report: every value, ground and portion, E*, the rest and the weighted amount
+  -- .. with the same report: every value, loss, ground, amount left out and portion, E*, the rest and the weighted amount
   pub same-report : (d : Deal) → acceptedUpTo before d ≡ true → reportUpTo now d ≡ reportUpTo before d
   -- OPENING AND ADDING: ANOTHER NUMBER THAN 5 STAYS, 0 AMONG THEM
 

@@ -6,7 +6,7 @@
 -- today (earlier/specs/BeforeFloor): what is said here of lines, records and books before means these among them, and what they change is said in
 -- claims/specs/CreditDerivatives. What ends in By is a definition of opening,
 -- adding, reporting or answering a book by a set of rules (earlier/specs/Deals, earlier/specs/Books); by the rules in force it is the one
--- that contracts name, as the fields ending in -now say. What the request did not touch (values, grounds, cover, rounding, the deals of a
+-- that contracts name, as the fields ending in -now say. What the request did not touch (values, losses, grounds, cover, rounding, the deals of a
 -- book) is today's definition on both sides, and is not compared. Demand 3 speaks of deals of every edition, a guarantor's sovereign's step among
 -- what may get better (claims/specs/Demand3). Since 02: L9 a book may be headed 3 too, which has tables of its own (claims/specs/Tables2023).
 use Prim.Native.Nat.{ℕ, _≤_, max}
@@ -104,7 +104,7 @@ pub record SovereignFloor : Type 0 where
   pub deal-same : (deal : DealLines) → dealAnswer 1 deal ≡ dealAnswerBy beforeFloor 1 deal
   -- headed 2, it was refused: by 9, unless it was too long
   pub was-refused : (book : List ℕ) (places : ℕ) → sameBytes (firstLine book) (bytes "CRM\t2\n") ≡ true → length book ≤ 65536 → bookRefusalBy beforeFloor book places ≡ 9
-  -- A DEAL OF THE FIRST EDITION HAS THE REPORT IT HAD
+  -- A DEAL OF THE FIRST EDITION HAS THE REPORT IT HAD, beside the losses that came later (02: L2)
 
   -- whatever allowed steps of sovereigns its record holds
   pub report-same : (d : Deal) → accepted d ≡ true → d .terms .edition ≡ 1 → reportOf d ≡ reportBy beforeFloor d

@@ -3,7 +3,7 @@
 --
 -- `before2023` is the set of rules before this request (earlier/specs/Before2023); what ends in By is said by a set of rules, as in
 -- claims/specs/SovereignFloor, where the fields ending in -now show that by the rules in force it is what contracts name. What the request did not
--- touch (the figures of 2019, lines, the tests of items, values, grounds, cover, rounding) is today's definition on both sides, and is not compared;
+-- touch (the figures of 2019, lines, the tests of items, values, losses, grounds, cover, rounding) is today's definition on both sides, and is not compared;
 -- so are lines S and swaps, which came later (02: L1; claims/specs/CreditDerivatives).
 -- "Prove the betterment rule from what any such table must have, and show each table has it" is in claims/specs/Demand3.
 use Prim.Native.Nat.{ℕ, _≤_, max}

@@ -27,9 +27,9 @@ use Rattle.deal.specs.declared.collateral.Collateral.{Collateral}
 use Rattle.deal.specs.declared.guarantee.Guarantee.{Guarantee}
 use Rattle.deal.specs.Views.{viewOf}
 use Rattle.deal.specs.declared.deal.Deal.{Deal}
-use Rattle.relief.specs.Collateral.{collateralGround, collateralGrounds, collateralOutcome, collateralValue, combinedHaircutOf}
+use Rattle.relief.specs.Collateral.{collateralGround, collateralGrounds, collateralOutcome, collateralValuation, combinedHaircutOf}
 use Rattle.relief.specs.Exposure.{adjustedExposureOf, collateralTotal, exposureAfter, riskWeightedAmountOf, scaledLentHaircut}
-use Rattle.relief.specs.Guarantees.{guaranteeGround, guaranteeGrounds, guaranteeOutcome, guaranteeValue, hedgedAmount}
+use Rattle.relief.specs.Guarantees.{guaranteeGround, guaranteeGrounds, guaranteeOutcome, guaranteeValuation, hedgedAmount}
 use Rattle.relief.specs.Maturity.{shortOriginal, shortResidual}
 use Rattle.relief.specs.Report.{fullReport}
 use Rattle.lines.specs.Lines.{lineOf}
@@ -165,7 +165,7 @@ third-refused d e = go (acceptedBy before2023 d) refl
 
 -- THE EDITION ENTERS A REPORT BY ITS TABLES ALONE: under one and the same set of tables it makes no difference
 pub only-tables : (table : Table) (edition : ℕ) (d : Deal) → fullReport table (viewOf (dealWithEdition edition d)) ≡ fullReport table (viewOf d)
-unfolding hedgedAmount fullReport collateralOutcome collateralGround collateralGrounds collateralValue combinedHaircutOf guaranteeOutcome guaranteeGround guaranteeGrounds guaranteeValue shortOriginal shortResidual scaledLentHaircut adjustedExposureOf collateralTotal exposureAfter riskWeightedAmountOf
+unfolding hedgedAmount fullReport collateralOutcome collateralGround collateralGrounds collateralValuation combinedHaircutOf guaranteeOutcome guaranteeGround guaranteeGrounds guaranteeValuation shortOriginal shortResidual scaledLentHaircut adjustedExposureOf collateralTotal exposureAfter riskWeightedAmountOf
 only-tables table edition d = refl
 
 -- A BOOK THAT IS NOT HEADED 3

@@ -13,7 +13,7 @@ use Rattle.deal.specs.Views.{View}
 use Rattle.deal.specs.declared.terms.Terms.{Terms}
 use Rattle.deal.specs.declared.guarantee.Guarantee.{Guarantee}
 use Rattle.relief.specs.Exposure.{exposureAfter, piecesOf, riskWeightedAmountOf}
-use Rattle.relief.specs.Guarantees.{guaranteeGround, guaranteeGrounds, guaranteeOutcome, guaranteeValue, protectionOf}
+use Rattle.relief.specs.Guarantees.{guaranteeGround, guaranteeGrounds, guaranteeOutcome, guaranteeValuation, protectionOf}
 use Rattle.relief.specs.Report.{fullReport, guaranteeReports}
 use Rattle.relief.proofs.Hedged.{hedged-whole}
 use Rattle.earlier.specs.BeforeSwaps.{asGuarantee, guaranteesAlone}
@@ -34,8 +34,8 @@ module _ {B : Type 0} (f : Guarantee → B) (same : (g : Guarantee) → eqb (g .
       ap₂ _∷_ (ap (λ x. h x p) (same g (not-true _ (b .0)))) (zip-same h gs ps (b .1))
 
 module _ (table : Table) (t : Terms) (g : Guarantee) (whole : eqb (g .instrument) swapWithoutRestructuring ≡ false) where
-  value-same : guaranteeValue t (asGuarantee g) ≡ guaranteeValue t g
-  unfolding guaranteeValue
+  value-same : guaranteeValuation t (asGuarantee g) ≡ guaranteeValuation t g
+  unfolding guaranteeValuation
   value-same = rw (hedged-whole t g whole, hedged-whole t (asGuarantee g) refl)
 
   outcome-same : guaranteeOutcome table t (asGuarantee g) ≡ guaranteeOutcome table t g

@@ -6,6 +6,7 @@ pub mod Days
 pub mod DaysInBooks
 pub mod Now
 pub mod BeforeFloor
+pub mod BeforeLosses
 pub mod BeforeSwaps
 pub mod GuaranteesAlone
 pub mod Before2023

@@ -44,7 +44,7 @@ termsChecksBefore2023 t = record {
   conditions = true;
 }
 
--- lines, and what adding asks of an item, are today's; so are swaps, which came later (02: L1)
+-- lines, and what adding asks of an item, are today's; so are swaps and the losses in a report, which came later (02: L1, L2)
 abbrev pub before2023 : Rules
 before2023 = record {
   heading = headingBefore2023;

@@ -1,7 +1,7 @@
 -- The rules before the sovereign floor (02: L5) and after longer lives (02: L11), each as it stood: one heading, lines without the sovereign's
 -- step, no test of it or of an edition, and weights by class and step alone. Lines read by these rules give 0 for the sovereign's step and 1 for the
 -- edition, which records did not hold then; no rule of `beforeFloor` reads either. Swaps (02: L1), which came later, are here what they are today,
--- but for the sovereign's step in their lines; the rules before them are in specs/BeforeSwaps
+-- but for the sovereign's step in their lines; the rules before them are in specs/BeforeSwaps. So are the losses in a report (02: L2)
 use Prim.Native.Nat.{ℕ}
 use mathlib.Core.Bool.{Bool, true, _&&_}
 use mathlib.Core.List.{List, [], _∷_}

@@ -1,5 +1,5 @@
 -- The rules before credit derivatives (02: L1), as they stood: lines D, C and G, no test of an instrument, and every item a guarantee, whose whole
--- amount is hedged
+-- amount is hedged. Reports have the losses that came later (02: L2), as they do today
 use Prim.Native.Nat.{ℕ}
 use mathlib.Core.Bool.{Bool, not, _&&_}
 use mathlib.Core.List.{List, [], _∷_, map}

@@ -1,4 +1,5 @@
 pub mod BeforeFloor
+pub mod BeforeLosses
 pub mod BeforeSwaps
 pub mod Before2023
 pub mod Books

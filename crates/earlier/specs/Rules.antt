@@ -1,5 +1,6 @@
 -- What landings have moved of opening, adding, reporting and answering, as one set of rules: so that answers of before can be spoken of
--- beside those of now (specs/Deals, specs/Books). Everything else is today's definition
+-- beside those of now (specs/Deals, specs/Books). Everything else is today's definition, the losses in a report (02: L2) among it: without them,
+-- specs/BeforeLosses
 use Prim.Native.Nat.{ℕ}
 use mathlib.Core.List.{List}
 use Rattle.base.specs.FirstMet.{Test}

@@ -11,7 +11,7 @@ use Rattle.deal.specs.Collateral.{collateralListTests}
 use Rattle.deal.specs.Guarantees.{guaranteeListTests}
 use Rattle.deal.specs.declared.answer.Answer.the-variants.{Accepted}
 use Rattle.relief.specs.Grounds.{groundNumber}
-use Rattle.relief.specs.Outcomes.{outcomeGround, outcomeValue}
+use Rattle.relief.specs.Outcomes.{outcomeGround, outcomeLeftOut, outcomeValuation}
 use Rattle.relief.specs.declared.ground.Ground.the-variants.{NotLawful, WeightNotBelow}
 use Rattle.relief.specs.declared.outcome.Outcome.the-variants.{LeftOut, Valued}
 use Rattle.relief.specs.declared.report.Report.{Report}
@@ -19,7 +19,7 @@ use Rattle.relief.proofs.Computed.{computed}
 use Rattle.hadlephoga.specs.Layout.{layout}
 use Rattle.hadlephoga.specs.Operations.{addingCollateralRefusal, addingGuaranteeRefusal, addingRefusal, addingSwapRefusal, listOpened, numbersWithCollateral, numbersWithGuarantee, numbersWithSwap, openedNumbers, openingRefusalOf, openingTests}
 use Rattle.hadlephoga.specs.Records.{dealIn, dealNumbers, inOrder, slices, recordLength}
-use Rattle.hadlephoga.specs.Reports.{collateralReportWidth, guaranteeReportWidth, listAfter, reportIn, reportLength, reportNumbers, reportingRefusal}
+use Rattle.hadlephoga.specs.Reports.{outcomeWidth, guaranteeReportWidth, listAfter, reportIn, reportLength, reportNumbers, reportingRefusal}
 
 -- under the first edition "D 1000000 3 0 978 3 1 1800 1 0 0", "C 400000 2 1 720 978 1800 1800 1 1 1 0", "G 200000 1 1 978 1800 1800 1 1 1"
 abbrev example : List ℕ
@@ -30,14 +30,14 @@ example =
 
 -- E* 611,314 and the weighted amount 411,314, as the book's answer has them; a number behind the report stays
 example-reported :
-    (reportingRefusal example 84 ≡ 0)
-    × (listAfter example (replicate 84 7) ≡ 611314 ∷ 388686 ∷ 0 ∷ (replicate 30 0 ++ 200000 ∷ 0 ∷ 200000 ∷ (replicate 45 0 ++ 411314 ∷ 411314 ∷ 7 ∷ [])))
+    (reportingRefusal example 212 ≡ 0)
+    × (listAfter example (replicate 212 7) ≡ 611314 ∷ 388686 ∷ 0 ∷ 11314 ∷ (replicate 93 0 ++ 200000 ∷ 0 ∷ 0 ∷ 0 ∷ 0 ∷ 0 ∷ 200000 ∷ (replicate 105 0 ++ 411314 ∷ 411314 ∷ 7 ∷ [])))
 unfolding computed reportingRefusal listAfter reportNumbers reportIn dealIn slices inOrder answerNumber if_then_else_
 example-reported = (refl, refl)
 
 -- numbers that are no record, and a list with one place too few
-not-reported : (reportingRefusal (0 ∷ example) 83 ≡ 40) × (listAfter (0 ∷ example) (replicate 83 7) ≡ replicate 83 0) × (reportingRefusal example 82 ≡ 13) × (listAfter example (replicate 82 7) ≡ replicate 82 7)
-unfolding computed reportingRefusal listAfter reportNumbers reportIn inOrder outcomeValue outcomeGround answerNumber if_then_else_
+not-reported : (reportingRefusal (0 ∷ example) 211 ≡ 40) × (listAfter (0 ∷ example) (replicate 211 7) ≡ replicate 211 0) × (reportingRefusal example 210 ≡ 13) × (listAfter example (replicate 210 7) ≡ replicate 210 7)
+unfolding computed reportingRefusal listAfter reportNumbers reportIn inOrder outcomeValuation outcomeGround outcomeLeftOut answerNumber if_then_else_
 not-reported = (refl, refl, refl, refl)
 
 -- the same deal, opened, and its items added
@@ -106,8 +106,8 @@ unfolding built
 longest-built = refl
 
 longest-reported :
-    (reportingRefusal longest 83 ≡ 0)
-    × (listAfter longest (replicate 83 7) ≡ 679197 ∷ 377372 ∷ 0 ∷ (replicate 30 0 ++ 200000 ∷ 0 ∷ 200000 ∷ (replicate 45 0 ++ 479197 ∷ 479197 ∷ [])))
+    (reportingRefusal longest 211 ≡ 0)
+    × (listAfter longest (replicate 211 7) ≡ 679197 ∷ 377372 ∷ 0 ∷ 22628 ∷ (replicate 93 0 ++ 200000 ∷ 0 ∷ 0 ∷ 0 ∷ 0 ∷ 0 ∷ 200000 ∷ (replicate 105 0 ++ 479197 ∷ 479197 ∷ [])))
 unfolding computed reportingRefusal listAfter reportNumbers reportIn dealIn slices inOrder answerNumber if_then_else_
 longest-reported = (refl, refl)
 
@@ -135,22 +135,25 @@ abbrev sample : Report
 sample = record {
   answer = Accepted;
   exposure = 1;
-  collateral = record { outcome = Valued 2 } ∷ record { outcome = LeftOut NotLawful } ∷ [];
-  guarantees = record { outcome = Valued 3; portion = 4 } ∷ record { outcome = LeftOut WeightNotBelow; portion = 5 } ∷ [];
-  uncovered = 6;
-  rwa = 7;
+  collateral = record { outcome = Valued (record { value = 2; «haircut_loss» = 3; «maturity_loss» = 4; «cut_loss» = 5 }) } ∷ record { outcome = LeftOut NotLawful 6 } ∷ [];
+  guarantees = record { outcome = Valued (record { value = 7; «haircut_loss» = 8; «maturity_loss» = 9; «cut_loss» = 10 }); portion = 11 } ∷ record { outcome = LeftOut WeightNotBelow 12; portion = 13 } ∷ [];
+  uncovered = 14;
+  rwa = 15;
 }
 
-report-in-place : reportNumbers sample ≡ 1 ∷ 2 ∷ 0 ∷ 0 ∷ 21 ∷ 3 ∷ 0 ∷ 4 ∷ 0 ∷ 29 ∷ 5 ∷ 6 ∷ 7 ∷ []
-unfolding reportNumbers inOrder outcomeValue outcomeGround groundNumber
+report-in-place :
+    reportNumbers sample
+    ≡ 1 ∷ 2 ∷ 0 ∷ 3 ∷ 4 ∷ 5 ∷ 0 ∷ 0 ∷ 21 ∷ 0 ∷ 0 ∷ 0 ∷ 6
+    ∷ 7 ∷ 0 ∷ 8 ∷ 9 ∷ 10 ∷ 0 ∷ 11 ∷ 0 ∷ 29 ∷ 0 ∷ 0 ∷ 0 ∷ 12 ∷ 13 ∷ 14 ∷ 15 ∷ []
+unfolding reportNumbers inOrder outcomeValuation outcomeGround outcomeLeftOut groundNumber
 report-in-place = refl
 
 -- THE LAYOUT, which has a number: how many numbers each part has, and what stands where. Whoever changes one of these has to change the
 -- layout's number, and this fact with it
-layout-3 :
-    layout ∷ termsWidth ∷ collateralWidth ∷ guaranteeWidth ∷ sentGuaranteeWidth ∷ sentSwapWidth ∷ recordLength ∷ collateralReportWidth ∷ guaranteeReportWidth ∷ reportLength ∷ []
-    ≡ 3 ∷ 12 ∷ 11 ∷ 11 ∷ 10 ∷ 11 ∷ 366 ∷ 2 ∷ 3 ∷ 83 ∷ []
-layout-3 = refl
+layout-4 :
+    layout ∷ termsWidth ∷ collateralWidth ∷ guaranteeWidth ∷ sentGuaranteeWidth ∷ sentSwapWidth ∷ recordLength ∷ outcomeWidth ∷ guaranteeReportWidth ∷ reportLength ∷ []
+    ≡ 4 ∷ 12 ∷ 11 ∷ 11 ∷ 10 ∷ 11 ∷ 366 ∷ 6 ∷ 7 ∷ 211 ∷ []
+layout-4 = refl
 
 -- a party's sovereign's step and the edition, on numbers (02: L5): an unrated bank under a sovereign of step 6 and one that backs it under
 -- one of step 4, opened, added and reported. 150 and 100 under the second edition; 50 both under the first, and 150 both under the third (02:
@@ -161,9 +164,9 @@ floored edition =
     (600 ∷ 2 ∷ 0 ∷ 4 ∷ 978 ∷ 1800 ∷ 1800 ∷ 1 ∷ 1 ∷ 1 ∷ [])
 
 floored-reported :
-    (listAfter (floored 2) (replicate 83 7) ≡ 1000 ∷ (replicate 32 0 ++ 600 ∷ 0 ∷ 600 ∷ (replicate 45 0 ++ 400 ∷ 1200 ∷ [])))
-    × (listAfter (floored 1) (replicate 83 7) ≡ 1000 ∷ (replicate 32 0 ++ 0 ∷ 29 ∷ 0 ∷ (replicate 45 0 ++ 1000 ∷ 500 ∷ [])))
-    × (listAfter (floored 3) (replicate 83 7) ≡ 1000 ∷ (replicate 32 0 ++ 0 ∷ 29 ∷ 0 ∷ (replicate 45 0 ++ 1000 ∷ 1500 ∷ [])))
+    (listAfter (floored 2) (replicate 211 7) ≡ 1000 ∷ (replicate 96 0 ++ 600 ∷ 0 ∷ 0 ∷ 0 ∷ 0 ∷ 0 ∷ 600 ∷ (replicate 105 0 ++ 400 ∷ 1200 ∷ [])))
+    × (listAfter (floored 1) (replicate 211 7) ≡ 1000 ∷ (replicate 96 0 ++ 0 ∷ 29 ∷ 0 ∷ 0 ∷ 0 ∷ 600 ∷ 0 ∷ (replicate 105 0 ++ 1000 ∷ 500 ∷ [])))
+    × (listAfter (floored 3) (replicate 211 7) ≡ 1000 ∷ (replicate 96 0 ++ 0 ∷ 29 ∷ 0 ∷ 0 ∷ 0 ∷ 600 ∷ 0 ∷ (replicate 105 0 ++ 1000 ∷ 1500 ∷ [])))
     × (floored 4 ≡ replicate 366 0)
 unfolding built computed reportingRefusal listAfter reportNumbers reportIn dealIn slices inOrder answerNumber if_then_else_
 floored-reported = (refl, refl, refl, refl)
@@ -183,8 +186,8 @@ unfolding built
 swap-built = refl
 
 swap-reported :
-    (listAfter (swapped 0) (replicate 83 7) ≡ 1000 ∷ (replicate 32 0 ++ 552 ∷ 0 ∷ 552 ∷ (replicate 45 0 ++ 448 ∷ 448 ∷ [])))
-    × (listAfter (swapped 1) (replicate 83 7) ≡ 1000 ∷ (replicate 32 0 ++ 1840 ∷ 0 ∷ 1000 ∷ (replicate 45 0 ++ 0 ∷ 0 ∷ [])))
+    (listAfter (swapped 0) (replicate 211 7) ≡ 1000 ∷ (replicate 96 0 ++ 552 ∷ 0 ∷ 48 ∷ 0 ∷ 1400 ∷ 0 ∷ 552 ∷ (replicate 105 0 ++ 448 ∷ 448 ∷ [])))
+    × (listAfter (swapped 1) (replicate 211 7) ≡ 1000 ∷ (replicate 96 0 ++ 1840 ∷ 0 ∷ 160 ∷ 0 ∷ 0 ∷ 0 ∷ 1000 ∷ (replicate 105 0 ++ 0 ∷ 0 ∷ [])))
     -- an entry that is neither: 8, and the record stays
     × (addingSwapRefusal (swapped 0) (2000 ∷ 1 ∷ 1 ∷ 0 ∷ 840 ∷ 1800 ∷ 1800 ∷ 1 ∷ 1 ∷ 1 ∷ 18446744073709551615 ∷ []) ≡ 8)
     × (swapped 2 ≡ openedNumbers (1000 ∷ 3 ∷ 0 ∷ 0 ∷ 978 ∷ 3 ∷ 1 ∷ 1800 ∷ 1 ∷ 0 ∷ 0 ∷ 1 ∷ []))

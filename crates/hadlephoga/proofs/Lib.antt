@@ -3,3 +3,4 @@ pub mod Pieces
 pub mod Numbers
 pub mod Operations
 pub mod Records
+pub mod Reported

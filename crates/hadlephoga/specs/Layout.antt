@@ -10,5 +10,8 @@ use Prim.Native.Nat.{ℕ}
 -- 1: document 01: terms 10, guarantee 9, record 332. It had no number that could be asked for
 -- 2: a party's sovereign's step behind its step, the edition as the last of the terms: terms 12, guarantee 10, record 350
 -- 3: an item's instrument as the last of its numbers in a record (02: L1): guarantee 11, record 366. What is sent to add a guarantee stays ten
+-- 4: in a report, what the haircut took, what the maturity step took, what was cut and the amount left out, behind an item's value and ground (02:
+--    L2): an item of collateral six numbers where there were two; a guarantee seven where there were three, its portion the last. Report 211 where
+--    there were 83, so that a shorter lent list is 13
 abbrev pub layout : ℕ
-layout = 3
+layout = 4

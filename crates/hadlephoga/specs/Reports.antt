@@ -1,4 +1,4 @@
--- Reporting a deal to callers in other languages, as numbers. 01: Reporting a deal
+-- Reporting a deal to callers in other languages, as numbers. 01: Reporting a deal; 02: L2
 use Prim.Native.Nat.{ℕ, _+_, _*_}
 use mathlib.Core.List.{List, [], _∷_, _++_}
 use lib.Dec.{eqb, ltb}
@@ -6,31 +6,38 @@ use lib.ListN.{length}
 use Rattle.base.specs.Choice.{if_then_else_}
 use Rattle.deal.specs.Answers.{answerNumber}
 use Rattle.deal.specs.Lists.{listLimit}
-use Rattle.relief.specs.Outcomes.{outcomeGround, outcomeValue}
+use Rattle.relief.specs.Outcomes.{outcomeGround, outcomeLeftOut, outcomeValuation}
 use Rattle.relief.specs.Report.{refusedReport, reportOf}
 use Rattle.relief.specs.declared.collateral.CollateralReport.{CollateralReport}
 use Rattle.relief.specs.declared.guarantee.GuaranteeReport.{GuaranteeReport}
+use Rattle.relief.specs.declared.outcome.Outcome.{Outcome}
 use Rattle.relief.specs.declared.report.Report.{Report}
 use Rattle.base.specs.Writing.{overwrite}
 use Rattle.hadlephoga.specs.Records.{dealIn, inOrder, recordLength}
 
--- "for each item either its value or its ground": the value and the ground's number, at most one of which is not 0
-abbrev pub collateralNumbers : CollateralReport → List ℕ
-collateralNumbers c = outcomeValue (c .outcome) ∷ outcomeGround (c .outcome) ∷ []
+-- "for each item either its value or its ground": the value and the ground's number, at most one of which is not 0; then what the haircut took, what
+-- the maturity step took, what was cut, and the amount left out (02: L2), each 0 where it does not apply
+abbrev pub outcomeNumbers : Outcome → List ℕ
+outcomeNumbers o =
+    let v = outcomeValuation o in
+    v .value ∷ outcomeGround o ∷ v .«haircut_loss» ∷ v .«maturity_loss» ∷ v .«cut_loss» ∷ outcomeLeftOut o ∷ []
 
--- "each guarantee's portion" besides
+abbrev pub collateralNumbers : CollateralReport → List ℕ
+collateralNumbers c = outcomeNumbers (c .outcome)
+
+-- "each guarantee's portion" behind them, as the seventh
 abbrev pub guaranteeNumbers : GuaranteeReport → List ℕ
-guaranteeNumbers g = outcomeValue (g .outcome) ∷ outcomeGround (g .outcome) ∷ g .portion ∷ []
+guaranteeNumbers g = outcomeNumbers (g .outcome) ++ (g .portion ∷ [])
 
 -- how many numbers those are, for one item and for a list's sixteen places
-abbrev pub collateralReportWidth : ℕ
-collateralReportWidth = 2
+abbrev pub outcomeWidth : ℕ
+outcomeWidth = 6
 
 abbrev pub guaranteeReportWidth : ℕ
-guaranteeReportWidth = collateralReportWidth + 1
+guaranteeReportWidth = outcomeWidth + 1
 
 abbrev pub collateralReportsLength : ℕ
-collateralReportsLength = listLimit * collateralReportWidth
+collateralReportsLength = listLimit * outcomeWidth
 
 abbrev pub guaranteeReportsLength : ℕ
 guaranteeReportsLength = listLimit * guaranteeReportWidth

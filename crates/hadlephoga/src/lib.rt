@@ -28,7 +28,7 @@ const MALFORMED: u64 = 11;
 
 const LIST_TOO_SHORT: u64 = 13;
 
-const LAYOUT: u64 = 3;
+const LAYOUT: u64 = 4;
 
 // The number of the layout of all lists of numbers below. A caller built for another one must not go on.
 #[no_mangle]

@@ -1,13 +1,12 @@
 // A report's numbers, put into a lent list.
 ghost use Prim.Native.Nat.{_+_, _≤_};
-ghost use mathlib.Core.List.{_∷_, []};
 ghost use mathlib.Core.Path.{_≡_};
 ghost use lib.ListN.{length};
 ghost use Rattle.base.specs.Writing.{overwrite, Placed};
-ghost use Rattle.relief.specs.Outcomes.{outcomeGround, outcomeValue};
 ghost use Rattle.hadlephoga.specs.Records.{inOrder};
-ghost use Rattle.hadlephoga.specs.Reports.{collateralNumbers, guaranteeReportWidth, guaranteeReportsLength, guaranteeNumbers, collateralReportWidth, collateralReportsLength, reportLength, reportNumbers};
+ghost use Rattle.hadlephoga.specs.Reports.{collateralNumbers, guaranteeReportWidth, guaranteeReportsLength, guaranteeNumbers, outcomeWidth, collateralReportsLength, outcomeNumbers, reportLength, reportNumbers};
 use crate::lent::put_number;
+use crate::lent::put_numbers;
 use deal::deal::Deal;
 use relief::collateral::CollateralReport;
 use relief::guarantee::GuaranteeReport;
@@ -15,24 +14,38 @@ use relief::outcome::Outcome;
 use relief::report::Report;
 
 // The numbers of an item's outcome, and of a guarantee's with its portion.
-const COLLATERAL_REPORT_WIDTH: usize = 2;
+const OUTCOME_WIDTH: usize = 6;
 
-const GUARANTEE_REPORT_WIDTH: usize = COLLATERAL_REPORT_WIDTH + 1;
+const GUARANTEE_REPORT_WIDTH: usize = OUTCOME_WIDTH + 1;
 
 // The exposure, the places of both lists, the rest and the weighted amount.
 pub const REPORT_LENGTH: usize = 1
-    + Deal::COLLATERAL_LIMIT * COLLATERAL_REPORT_WIDTH
+    + Deal::COLLATERAL_LIMIT * OUTCOME_WIDTH
     + Deal::GUARANTEE_LIMIT * GUARANTEE_REPORT_WIDTH
     + 1
     + 1;
 
-// The value and the ground's number.
-fn put_outcome(list: &mut [u64], at: usize, outcome: Outcome) -> usize
-    requires { ⌜ at + collateralReportWidth ≤ length (now list) ⌝ }
-    ensures { λ r. ⌜ Placed at (outcomeValue outcome ∷ outcomeGround outcome ∷ []) (now (list .entry)) (now (list .exit)) r ⌝ }
+// The value, the ground's number, the losses and the amount left out.
+fn outcome_numbers(outcome: Outcome) -> [u64; OUTCOME_WIDTH]
+    ensures { λ r. ⌜ r ≡ outcomeNumbers outcome ⌝ }
 {
-    let next = put_number(list, at, outcome.value());
-    put_number(list, next, outcome.ground_number())
+    let valuation = outcome.valuation();
+    [
+        valuation.value,
+        outcome.ground_number(),
+        valuation.haircut_loss,
+        valuation.maturity_loss,
+        valuation.cut_loss,
+        outcome.left_out(),
+    ]
+}
+
+fn put_outcome(list: &mut [u64], at: usize, outcome: Outcome) -> usize
+    requires { ⌜ at + outcomeWidth ≤ length (now list) ⌝ }
+    ensures { λ r. ⌜ Placed at (outcomeNumbers outcome) (now (list .entry)) (now (list .exit)) r ⌝ }
+{
+    let numbers = outcome_numbers(outcome);
+    put_numbers(list, at, &numbers)
 }
 
 fn put_collateral(

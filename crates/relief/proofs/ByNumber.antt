@@ -11,55 +11,41 @@ use Rattle.deal.specs.Records.{accepted}
 use Rattle.deal.specs.Editions.{tableFor}
 use Rattle.deal.specs.Lists.{listLimit}
 use Rattle.deal.specs.Views.{View, viewOf}
-use Rattle.deal.specs.declared.terms.Terms.{Terms}
-use Rattle.deal.specs.declared.collateral.Collateral.{Collateral}
-use Rattle.deal.specs.declared.guarantee.Guarantee.{Guarantee}
 use Rattle.deal.specs.declared.deal.Deal.{Deal}
-use Rattle.relief.specs.Outcomes.{outcomeGround, outcomeValue}
-use Rattle.relief.specs.Collateral.{collateralGround, collateralValue, collateralOutcome}
-use Rattle.relief.specs.Guarantees.{guaranteeGround, guaranteeValue, guaranteeOutcome}
+use Rattle.relief.specs.Outcomes.{outcomeGround, outcomeLeftOut, outcomeValuation}
+use Rattle.relief.specs.Collateral.{collateralGround, collateralValuation}
+use Rattle.relief.specs.Guarantees.{guaranteeGround, guaranteeValuation}
 use Rattle.relief.specs.Report.{noCollateral, noGuarantee, collateralReports, guaranteeReports, fullReport, refusedReport, reportUnder, reportOf}
-use Rattle.relief.specs.ByNumber.{placeOf, placeWith, collateralByNumber, guaranteesByNumber}
-use Rattle.relief.proofs.Outcomes.{value-for}
-use Rattle.relief.proofs.Recognition.{collateral-number, guarantee-number}
+use Rattle.relief.specs.ByNumber.{placeOf, placeWith, noPlace, collateralByNumber, guaranteesByNumber}
+use Rattle.relief.proofs.Recognition.{collateral-place, guarantee-place}
 use Rattle.relief.proofs.Reports.{portion-each, shares}
-
--- an item
-module _ (table : Table) (t : Terms) where
-  collateral-place : (c : Collateral) → placeOf (collateralOutcome table t c) ≡ placeWith (collateralGround table t c) (collateralValue table t c)
-  unfolding collateralOutcome placeWith
-  collateral-place c = λ i. record { ground = collateral-number table t c i; value = value-for (collateralGround table t c) (collateralValue table t c) i }
-
-  guarantee-place : (g : Guarantee) → placeOf (guaranteeOutcome table t g) ≡ placeWith (guaranteeGround table t g) (guaranteeValue t g)
-  unfolding guaranteeOutcome placeWith
-  guarantee-place g = λ i. record { ground = guarantee-number table t g i; value = value-for (guaranteeGround table t g) (guaranteeValue t g) i }
 
 -- the counted ones
 module _ (table : Table) (v : View) where
   collateral-counted : map (λ p. placeOf (p .outcome)) (collateralReports table v) ≡
-      map (λ c. placeWith (collateralGround table (v .terms) c) (collateralValue table (v .terms) c)) (v .collateral)
+      map (λ c. placeWith (collateralGround table (v .terms) c) (c .amount) (collateralValuation table (v .terms) c)) (v .collateral)
   collateral-counted = map-map _ _ (v .collateral) ∙ (λ i. map (λ c. collateral-place table (v .terms) c i) (v .collateral))
 
   guarantees-counted : map (λ p. placeOf (p .outcome)) (guaranteeReports table v) ≡
-      map (λ g. placeWith (guaranteeGround table (v .terms) g) (guaranteeValue (v .terms) g)) (v .guarantees)
+      map (λ g. placeWith (guaranteeGround table (v .terms) g) (g .amount) (guaranteeValuation (v .terms) g)) (v .guarantees)
   guarantees-counted = map-zip _ _ _ (λ g n. guarantee-place table (v .terms) g) (v .guarantees) (shares table v) (portion-each table v)
 
 -- EVERY PLACE OF A REPORT IN THE PAPER'S NUMBERS
 module _ (d : Deal) where
   pub collateral-by-number : map (λ p. placeOf (p .outcome)) (reportOf d .collateral) ≡ collateralByNumber d
-  unfolding reportUnder fullReport collateralByNumber placeWith outcomeGround outcomeValue if_then_else_
+  unfolding reportUnder fullReport collateralByNumber outcomeGround outcomeValuation outcomeLeftOut if_then_else_
   collateral-by-number = go (accepted d)
     where
       go : (b : Bool) → map (λ p. placeOf (p .outcome)) ((if b then fullReport (tableFor (d .terms)) (viewOf d) else refusedReport) .collateral) ≡
-          inPlaces listLimit (placeWith 0 0) (if b then map (λ c. placeWith (collateralGround (tableFor (d .terms)) (d .terms) c) (collateralValue (tableFor (d .terms)) (d .terms) c)) (viewOf d .collateral) else [])
-      go true = map-places (λ p. placeOf (p .outcome)) listLimit noCollateral (collateralReports (tableFor (d .terms)) (viewOf d)) ∙ ap (inPlaces listLimit (placeWith 0 0)) (collateral-counted (tableFor (d .terms)) (viewOf d))
+          inPlaces listLimit noPlace (if b then map (λ c. placeWith (collateralGround (tableFor (d .terms)) (d .terms) c) (c .amount) (collateralValuation (tableFor (d .terms)) (d .terms) c)) (viewOf d .collateral) else [])
+      go true = map-places (λ p. placeOf (p .outcome)) listLimit noCollateral (collateralReports (tableFor (d .terms)) (viewOf d)) ∙ ap (inPlaces listLimit noPlace) (collateral-counted (tableFor (d .terms)) (viewOf d))
       go false = refl
 
   pub guarantees-by-number : map (λ p. placeOf (p .outcome)) (reportOf d .guarantees) ≡ guaranteesByNumber d
-  unfolding reportUnder fullReport guaranteesByNumber placeWith outcomeGround outcomeValue if_then_else_
+  unfolding reportUnder fullReport guaranteesByNumber outcomeGround outcomeValuation outcomeLeftOut if_then_else_
   guarantees-by-number = go (accepted d)
     where
       go : (b : Bool) → map (λ p. placeOf (p .outcome)) ((if b then fullReport (tableFor (d .terms)) (viewOf d) else refusedReport) .guarantees) ≡
-          inPlaces listLimit (placeWith 0 0) (if b then map (λ g. placeWith (guaranteeGround (tableFor (d .terms)) (d .terms) g) (guaranteeValue (d .terms) g)) (viewOf d .guarantees) else [])
-      go true = map-places (λ p. placeOf (p .outcome)) listLimit noGuarantee (guaranteeReports (tableFor (d .terms)) (viewOf d)) ∙ ap (inPlaces listLimit (placeWith 0 0)) (guarantees-counted (tableFor (d .terms)) (viewOf d))
+          inPlaces listLimit noPlace (if b then map (λ g. placeWith (guaranteeGround (tableFor (d .terms)) (d .terms) g) (g .amount) (guaranteeValuation (d .terms) g)) (viewOf d .guarantees) else [])
+      go true = map-places (λ p. placeOf (p .outcome)) listLimit noGuarantee (guaranteeReports (tableFor (d .terms)) (viewOf d)) ∙ ap (inPlaces listLimit noPlace) (guarantees-counted (tableFor (d .terms)) (viewOf d))
       go false = refl

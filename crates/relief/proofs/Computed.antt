@@ -16,6 +16,7 @@ use Rattle.scaling.specs.Scaling.{scaled}
 use Rattle.valuation.specs.Haircuts.{scaledCurrencyHaircut, combinedHaircut}
 use Rattle.valuation.specs.Protection.{keepShare, volatilityAdjustedValue, mismatched, maturityAdjusted, recognised}
 use Rattle.valuation.specs.Restructuring.{partiallyRecognised}
+use Rattle.valuation.specs.Valuation.{valuationOf}
 use Rattle.valuation.specs.Exposure.{volatilityAdjustedExposure, riskWeightedAmount}
 use Rattle.cover.specs.Cover.{lowerWeighted, equal, before, portion, coveredAfter, covered, uncovered, weightedSum}
 use Rattle.deal.specs.Parties.{partyStepAllowed, partyStepsAllowed, sovereignStepAllowed}
@@ -28,13 +29,13 @@ use Rattle.deal.specs.Editions.{tableFor}
 use Rattle.deal.specs.declared.deal.Deal.{Deal}
 use Rattle.relief.specs.declared.report.Report.{Report}
 use Rattle.relief.specs.Grounds.{groundNumber, groundWith}
-use Rattle.relief.specs.Outcomes.{outcomeValue, outcomeGround, outcomeFor}
+use Rattle.relief.specs.Outcomes.{outcomeValuation, outcomeGround, outcomeLeftOut, outcomeFor}
 use Rattle.relief.specs.Maturity.{shortOriginal, shortResidual}
-use Rattle.relief.specs.Collateral.{combinedHaircutOf, collateralValue, collateralGrounds, collateralGround, collateralOutcome}
-use Rattle.relief.specs.Guarantees.{hedgedAmount, guaranteeValue, guaranteeGrounds, guaranteeGround, guaranteeOutcome}
+use Rattle.relief.specs.Collateral.{combinedHaircutOf, collateralValuation, collateralGrounds, collateralGround, collateralOutcome}
+use Rattle.relief.specs.Guarantees.{hedgedAmount, guaranteeValuation, guaranteeGrounds, guaranteeGround, guaranteeOutcome}
 use Rattle.relief.specs.Exposure.{scaledLentHaircut, adjustedExposureOf, collateralTotal, exposureAfter, riskWeightedAmountOf}
 use Rattle.relief.specs.Report.{fullReport, reportUnder, reportOf}
 
 unfoldable pub computed : Deal → Report
-unfolding accepted recordAllowed tableFor tableOf collateralListAllowed guaranteeListAllowed termsRefusal termsTests collateralRefusal collateralTests guaranteeRefusal guaranteeTests firstOr within partyStepAllowed sovereignStepAllowed partyStepsAllowed assetStepAllowed lifeAllowed if_then_else_ least between roundUp sumOf zipWith eligible bankDebtEligible equityOrGold rowOf bandOf issuerColumn debtHaircut haircut lentHaircut stepColumn tableWeight ownWeight hasFloor atLeastSovereign counterpartyWeight providerWeight bandOf2023 otherIssuersHaircut2023 debtHaircut2023 haircut2023 lentHaircut2023 tableWeight2023 ownWeight2023 counterpartyWeight2023 providerWeight2023 minimumPeriod holdingPeriod guaranteePeriod scaled scaledCurrencyHaircut combinedHaircut keepShare volatilityAdjustedValue mismatched maturityAdjusted recognised volatilityAdjustedExposure riskWeightedAmount lowerWeighted equal before portion coveredAfter covered uncovered weightedSum groundNumber groundWith outcomeValue outcomeGround outcomeFor shortOriginal shortResidual combinedHaircutOf collateralValue collateralGrounds collateralGround collateralOutcome partiallyRecognised hedgedAmount guaranteeValue guaranteeGrounds guaranteeGround guaranteeOutcome scaledLentHaircut adjustedExposureOf collateralTotal exposureAfter riskWeightedAmountOf fullReport reportUnder
+unfolding accepted recordAllowed tableFor tableOf collateralListAllowed guaranteeListAllowed termsRefusal termsTests collateralRefusal collateralTests guaranteeRefusal guaranteeTests firstOr within partyStepAllowed sovereignStepAllowed partyStepsAllowed assetStepAllowed lifeAllowed if_then_else_ least between roundUp sumOf zipWith eligible bankDebtEligible equityOrGold rowOf bandOf issuerColumn debtHaircut haircut lentHaircut stepColumn tableWeight ownWeight hasFloor atLeastSovereign counterpartyWeight providerWeight bandOf2023 otherIssuersHaircut2023 debtHaircut2023 haircut2023 lentHaircut2023 tableWeight2023 ownWeight2023 counterpartyWeight2023 providerWeight2023 minimumPeriod holdingPeriod guaranteePeriod scaled scaledCurrencyHaircut combinedHaircut keepShare volatilityAdjustedValue mismatched maturityAdjusted recognised valuationOf volatilityAdjustedExposure riskWeightedAmount lowerWeighted equal before portion coveredAfter covered uncovered weightedSum groundNumber groundWith outcomeValuation outcomeGround outcomeLeftOut outcomeFor shortOriginal shortResidual combinedHaircutOf collateralValuation collateralGrounds collateralGround collateralOutcome partiallyRecognised hedgedAmount guaranteeValuation guaranteeGrounds guaranteeGround guaranteeOutcome scaledLentHaircut adjustedExposureOf collateralTotal exposureAfter riskWeightedAmountOf fullReport reportUnder
 computed d = reportOf d

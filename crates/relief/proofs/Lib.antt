@@ -1,8 +1,10 @@
 pub mod Cases
+pub mod AddsUp
 pub mod Assembly
 pub mod ByNumber
 pub mod Computed
 pub mod Hedged
+pub mod Losses
 pub mod Outcomes
 pub mod Recognition
 pub mod Reports

@@ -14,6 +14,7 @@ use Rattle.tables.specs.Table.{Table}
 use Rattle.tables.proofs.EditionBounds.{counterparty-low as counterparty-light, lent-low, provider-low as provider-light}
 use Rattle.scaling.proofs.Scaled.{scaled-bound}
 use Rattle.scaling.proofs.Periods.{period-bound}
+use Rattle.valuation.specs.Valuation.{valuationOf}
 use Rattle.valuation.proofs.Values.{recognised-le}
 use Rattle.cover.specs.Cover.{weightedSum}
 use Rattle.cover.specs.Limits.{withinLimits}
@@ -28,8 +29,8 @@ use Rattle.deal.specs.declared.collateral.Collateral.{Collateral}
 use Rattle.deal.specs.declared.guarantee.Guarantee.{Guarantee}
 use Rattle.relief.specs.Outcomes.{outcomeValue}
 use Rattle.relief.specs.Weights.{counterpartyWeightOf, providerWeightOf}
-use Rattle.relief.specs.Collateral.{collateralValue, collateralGrounds, collateralGround, collateralOutcome}
-use Rattle.relief.specs.Guarantees.{hedgedAmount, guaranteeValue, guaranteeGrounds, guaranteeGround, guaranteeOutcome, protectionOf}
+use Rattle.relief.specs.Collateral.{collateralValuation, collateralGrounds, collateralGround, collateralOutcome}
+use Rattle.relief.specs.Guarantees.{hedgedAmount, guaranteeValuation, guaranteeGrounds, guaranteeGround, guaranteeOutcome, protectionOf}
 use Rattle.relief.specs.Exposure.{exposureAfter, scaledLentHaircut, piecesOf}
 use Rattle.relief.proofs.Hedged.{hedged-le}
 use Rattle.relief.proofs.Outcomes.{value-bound}
@@ -43,13 +44,13 @@ exposure-bound table v = omega arith
 -- no item is worth more than its amount, whatever the table
 module _ (table : Table) (t : Terms) where
   pub collateral-le : (c : Collateral) → outcomeValue (collateralOutcome table t c) ≤ c .amount
-  unfolding collateralOutcome collateralGround collateralValue
-  collateral-le c = value-bound _ (c .amount) (collateralGrounds table t c) (collateral-leaves table t _ c) (recognised-le (c .amount) _ _ _)
+  unfolding collateralOutcome collateralGround collateralValuation valuationOf
+  collateral-le c = value-bound (c .amount) _ (collateralGrounds table t c) (c .amount) (collateral-leaves table t _ _ c) (recognised-le (c .amount) _ _ _)
 
   pub guarantee-le : (g : Guarantee) → outcomeValue (guaranteeOutcome table t g) ≤ g .amount
-  unfolding guaranteeOutcome guaranteeGround guaranteeValue
+  unfolding guaranteeOutcome guaranteeGround guaranteeValuation valuationOf
   guarantee-le g =
-      value-bound _ (g .amount) (guaranteeGrounds table t g) (guarantee-leaves table t _ g) (le-trans (recognised-le (hedgedAmount t g) _ _ _) (hedged-le t g))
+      value-bound (g .amount) _ (guaranteeGrounds table t g) (g .amount) (guarantee-leaves table t _ _ g) (le-trans (recognised-le (hedgedAmount t g) _ _ _) (hedged-le t g))
 
 -- the goods lent
 pub scaled-lent-haircut-bound : (t : Terms) → PlainTerms t → scaledLentHaircut (tableFor t) t ≤ 10000000

@@ -33,7 +33,7 @@ collateralTotal table t cs = sumOf (λ c. outcomeValue (collateralOutcome table 
 unfoldable pub exposureAfter : Table → View → ℕ
 exposureAfter table v = min (v .terms .amount) (adjustedExposureOf table (v .terms) - collateralTotal table (v .terms) (v .collateral))
 
--- what there is to cover it: the guarantees in order of adding, with value 0 where they are left out. In which order they cover is said in
+-- what there is to cover it: guarantees and swaps in order of adding, with value 0 where they are left out. In which order they cover is said in
 -- cover/specs/Cover
 abbrev pub piecesOf : Table → View → List Protection
 piecesOf table v = map (protectionOf table (v .terms)) (v .guarantees)

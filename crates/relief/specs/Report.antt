@@ -1,4 +1,4 @@
--- Reporting a deal. 01: The four operations, Reporting a deal
+-- Reporting a deal. 01: The four operations, Reporting a deal; 02: L2
 use Prim.Native.Nat.{ℕ}
 use mathlib.Core.Bool.{not}
 use mathlib.Core.List.{List, [], _∷_, map, zipWith}
@@ -6,6 +6,7 @@ use Rattle.base.specs.Choice.{if_then_else_}
 use Rattle.base.specs.FirstMet.{_when_, firstMet}
 use Rattle.base.specs.Places.{inPlaces}
 use Rattle.tables.specs.Table.{Table}
+use Rattle.valuation.specs.Valuation.{noValuation}
 use Rattle.cover.specs.Cover.{portions, uncovered}
 use Rattle.deal.specs.Lists.{listLimit}
 use Rattle.deal.specs.Records.{accepted}
@@ -23,14 +24,14 @@ use Rattle.relief.specs.Collateral.{collateralOutcome}
 use Rattle.relief.specs.Guarantees.{guaranteeOutcome}
 use Rattle.relief.specs.Exposure.{exposureAfter, piecesOf, riskWeightedAmountOf}
 
--- "Places past a count hold value 0 and portion 0"
+-- "Places past a count hold value 0 and portion 0", and since 02: L2 "hold 0 in all of these"
 abbrev pub noCollateral : CollateralReport
-noCollateral = record { outcome = Valued 0 }
+noCollateral = record { outcome = Valued noValuation }
 
 abbrev pub noGuarantee : GuaranteeReport
-noGuarantee = record { outcome = Valued 0; portion = 0 }
+noGuarantee = record { outcome = Valued noValuation; portion = 0 }
 
--- "for each item either its value or its ground", in order of adding
+-- "for each item either its value or its ground", with its losses or the amount left out, in order of adding
 abbrev pub collateralReport : Table → Terms → Collateral → CollateralReport
 collateralReport table t c = record { outcome = collateralOutcome table t c }
 

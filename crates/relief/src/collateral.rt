@@ -24,7 +24,7 @@ use scaling::factor::TimeFactor;
 use tables::editions::haircut_under;
 use tables::eligibility::eligible;
 use valuation::haircuts::combined_haircut;
-use valuation::protection::recognised;
+use valuation::protection::Valuation;
 
 pub struct CollateralReport {
     pub outcome: Outcome,
@@ -36,31 +36,38 @@ pub struct CollateralValues {
     pub total: u64,
 }
 
-// The first ground that applies, or the value after these haircuts.
+// The first ground that applies, or the valuation under these haircuts.
 fn outcome_after_haircut(terms: Terms, item: Collateral, haircut: u64) -> Outcome
     requires { ⌜ (item .amount ≤ 1000000000000) × (haircut ≡ combinedHaircutOf (tableFor terms) terms item) ⌝ }
     ensures { λ r. ⌜ r ≡ collateralOutcome (tableFor terms) terms item ⌝ }
 {
     let asset = item.asset;
     if item.lawful == 0 {
-        return Outcome::LeftOut(Ground::NotLawful);
+        return Outcome::LeftOut(Ground::NotLawful, item.amount);
     }
     if item.unrelated == 0 {
-        return Outcome::LeftOut(Ground::Related);
+        return Outcome::LeftOut(Ground::Related, item.amount);
     }
     if item.not_in_rating == 0 {
-        return Outcome::LeftOut(Ground::AlreadyInRating);
+        return Outcome::LeftOut(Ground::AlreadyInRating, item.amount);
     }
     if !eligible(asset.goods, asset.step, item.listed) {
-        return Outcome::LeftOut(Ground::NotEligible);
+        return Outcome::LeftOut(Ground::NotEligible, item.amount);
     }
     if short_original(terms, item.residual, item.original) {
-        return Outcome::LeftOut(Ground::ShortOriginalTerm);
+        return Outcome::LeftOut(Ground::ShortOriginalTerm, item.amount);
     }
     if short_residual(terms, item.residual) {
-        return Outcome::LeftOut(Ground::ShortResidualTerm);
+        return Outcome::LeftOut(Ground::ShortResidualTerm, item.amount);
     }
-    Outcome::Valued(recognised(item.amount, haircut, item.residual, terms.residual))
+    let valuation = Valuation::of(
+        item.amount,
+        item.amount,
+        haircut,
+        item.residual,
+        terms.residual,
+    );
+    Outcome::Valued(valuation)
 }
 
 // One item of collateral, under the time factor of the deal's period.
@@ -82,7 +89,7 @@ pub fn value_collateral(terms: Terms, list: CollateralList, factor: TimeFactor) 
     let items = list.items;
     let count = list.count;
     let none = CollateralReport {
-        outcome: Outcome::Valued(0),
+        outcome: Outcome::Valued(Valuation::NONE),
     };
     let mut reports = [none; Deal::COLLATERAL_LIMIT];
     let mut total: u64 = 0;
@@ -91,7 +98,8 @@ pub fn value_collateral(terms: Terms, list: CollateralList, factor: TimeFactor) 
         let item = items[i];
         let outcome = collateral_outcome(terms, item, factor);
         reports[i] = CollateralReport { outcome };
-        total += outcome.value();
+        let valuation = outcome.valuation();
+        total += valuation.value;
         i += 1;
     }
     CollateralValues { reports, total }

@@ -20,7 +20,7 @@ use scaling::factor::TimeFactor;
 use tables::classes::OTHER_ENTITY;
 use tables::editions::provider_weight_under;
 use valuation::haircuts::scaled_currency_haircut;
-use valuation::protection::recognised;
+use valuation::protection::Valuation;
 use valuation::restructuring::partially_recognised;
 
 // What is reported of it.
@@ -57,7 +57,7 @@ fn hedged_amount(terms: Terms, item: Guarantee) -> u64
     item.amount
 }
 
-// The first ground that applies, or the value after this haircut. `weight` is the provider's, `counterparty_weight` the counterparty's.
+// The first ground that applies, or the valuation under this haircut. `weight` is the provider's, `counterparty_weight` the counterparty's.
 fn outcome_after_haircut(
     terms: Terms,
     item: Guarantee,
@@ -70,28 +70,29 @@ fn outcome_after_haircut(
     ensures { λ r. ⌜ r ≡ guaranteeOutcome (tableFor terms) terms item ⌝ }
 {
     if item.lawful == 0 {
-        return Outcome::LeftOut(Ground::NotLawful);
+        return Outcome::LeftOut(Ground::NotLawful, item.amount);
     }
     if item.direct == 0 {
-        return Outcome::LeftOut(Ground::NotDirect);
+        return Outcome::LeftOut(Ground::NotDirect, item.amount);
     }
     if item.not_in_rating == 0 {
-        return Outcome::LeftOut(Ground::AlreadyInRating);
+        return Outcome::LeftOut(Ground::AlreadyInRating, item.amount);
     }
     if unrated_entity(item) {
-        return Outcome::LeftOut(Ground::UnratedEntity);
+        return Outcome::LeftOut(Ground::UnratedEntity, item.amount);
     }
     if short_original(terms, item.residual, item.original) {
-        return Outcome::LeftOut(Ground::ShortOriginalTerm);
+        return Outcome::LeftOut(Ground::ShortOriginalTerm, item.amount);
     }
     if short_residual(terms, item.residual) {
-        return Outcome::LeftOut(Ground::ShortResidualTerm);
+        return Outcome::LeftOut(Ground::ShortResidualTerm, item.amount);
     }
     if weight >= counterparty_weight {
-        return Outcome::LeftOut(Ground::WeightNotBelow);
+        return Outcome::LeftOut(Ground::WeightNotBelow, item.amount);
     }
     let hedged = hedged_amount(terms, item);
-    Outcome::Valued(recognised(hedged, haircut, item.residual, terms.residual))
+    let valuation = Valuation::of(item.amount, hedged, haircut, item.residual, terms.residual);
+    Outcome::Valued(valuation)
 }
 
 // One guarantee; `counterparty_weight` is the counterparty's, `factor` that of the guarantees' period.
@@ -114,9 +115,12 @@ pub fn guarantee_outcome(
     );
     let haircut = scaled_currency_haircut(factor, item.currency, terms.currency);
     let outcome = outcome_after_haircut(terms, item, haircut, weight, counterparty_weight);
-    let value = outcome.value();
+    let valuation = outcome.valuation();
     ValuedGuarantee {
         outcome,
-        protection: Protection { value, weight },
+        protection: Protection {
+            value: valuation.value,
+            weight,
+        },
     }
 }

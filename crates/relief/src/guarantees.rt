@@ -20,6 +20,7 @@ use deal::deal::Deal;
 use deal::guarantee::GuaranteeList;
 use deal::terms::Terms;
 use scaling::factor::TimeFactor;
+use valuation::protection::Valuation;
 
 // In order of adding.
 pub struct GuaranteeValues {
@@ -42,7 +43,7 @@ pub fn value_guarantees(
     let items = list.items;
     let count = list.count;
     let none = GuaranteeReport {
-        outcome: Outcome::Valued(0),
+        outcome: Outcome::Valued(Valuation::NONE),
         portion: 0,
     };
     let mut reports = [none; Deal::GUARANTEE_LIMIT];

@@ -8,6 +8,7 @@ ghost use Rattle.relief.specs.Portions.{covering};
 use crate::guarantee::GuaranteeReport;
 use crate::outcome::Outcome;
 use deal::deal::Deal;
+use valuation::protection::Valuation;
 
 // The reports with their portions.
 pub fn with_portions(
@@ -19,7 +20,7 @@ pub fn with_portions(
     ensures { λ r. ⌜ r ≡ zipWith covering (take count values) (take count portions) ++ drop count (replicate 16 noGuarantee) ⌝ }
 {
     let none = GuaranteeReport {
-        outcome: Outcome::Valued(0),
+        outcome: Outcome::Valued(Valuation::NONE),
         portion: 0,
     };
     let mut reports = [none; Deal::GUARANTEE_LIMIT];

@@ -26,6 +26,7 @@ use deal::deal::Deal;
 use deal::guarantee::GuaranteeList;
 use deal::terms::Terms;
 use valuation::exposure::risk_weighted_amount;
+use valuation::protection::Valuation;
 
 pub struct Report {
     pub answer: Answer,
@@ -45,10 +46,10 @@ pub fn refused() -> Report
     ensures { λ r. ⌜ r ≡ refusedReport ⌝ }
 {
     let no_collateral = CollateralReport {
-        outcome: Outcome::Valued(0),
+        outcome: Outcome::Valued(Valuation::NONE),
     };
     let no_guarantee = GuaranteeReport {
-        outcome: Outcome::Valued(0),
+        outcome: Outcome::Valued(Valuation::NONE),
         portion: 0,
     };
     let collateral = [no_collateral; Deal::COLLATERAL_LIMIT];

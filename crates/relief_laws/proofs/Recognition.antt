@@ -14,6 +14,7 @@ use Rattle.tables.specs.Table.{Table, TableLaws, Goods, Provider}
 use Rattle.scaling.specs.Period.{holdingPeriod}
 use Rattle.valuation.specs.Haircuts.{combinedHaircut, scaledCurrencyHaircut}
 use Rattle.valuation.specs.Protection.{recognised}
+use Rattle.valuation.specs.Valuation.{valuationOf}
 use Rattle.cover.specs.Cover.{lowerWeighted}
 use Rattle.cover_laws.specs.Layers.{LeftOutOrLowerWeighted}
 use Rattle.cover_laws.proofs.Weighted.{lower-weighted-mono}
@@ -22,8 +23,8 @@ use Rattle.deal.specs.declared.collateral.Collateral.{Collateral}
 use Rattle.deal.specs.declared.guarantee.Guarantee.{Guarantee}
 use Rattle.relief.specs.Outcomes.{outcomeValue}
 use Rattle.relief.specs.Weights.{counterpartyWeightOf, providerWeightOf}
-use Rattle.relief.specs.Collateral.{combinedHaircutOf, collateralValue, collateralGrounds, collateralGround, collateralOutcome}
-use Rattle.relief.specs.Guarantees.{guaranteeValue, guaranteeGrounds, guaranteeGround, guaranteeOutcome, protectionOf}
+use Rattle.relief.specs.Collateral.{combinedHaircutOf, collateralValuation, collateralGrounds, collateralGround, collateralOutcome}
+use Rattle.relief.specs.Guarantees.{guaranteeValuation, guaranteeGrounds, guaranteeGround, guaranteeOutcome, protectionOf}
 use Rattle.relief.proofs.Outcomes.{value-or-none}
 use Rattle.relief.proofs.Recognition.{_also_, collateral-leaves, guarantee-leaves}
 use Rattle.relief_laws.proofs.Haircuts.{period-mono, guarantee-mono, currency-mono, currency-same, collateral-mono, collateral-same}
@@ -40,7 +41,7 @@ module _ (table : Table) (t : Terms) where
   unfolding guaranteeOutcome guaranteeGround guaranteeGrounds
   protection-lower-weighted g =
       ⊎-elim (λ z. inl z) (λ n. inr (leb-false _ _ (n .1 .1 .1 .1 .1 .1 .0)))
-      (value-or-none (guaranteeValue t g) (guaranteeGrounds table t g) (guarantee-leaves table t _ g))
+      (value-or-none (g .amount) (guaranteeValuation t g) (guaranteeGrounds table t g) (guarantee-leaves table t _ _ g))
 
 -- a weight comes from class, step and the sovereign's step alone
 pub counterparty-same : (table : Table) {t t′ : Terms} → NoWorseTerms t t′ → counterpartyWeightOf table t′ ≡ counterpartyWeightOf table t
@@ -115,8 +116,8 @@ module _ {table : Table} (laws : TableLaws table) where
           also residual-stays t t′ (terms .fields .residual) (item .fields .residual) (n .1 .1 .1 .1 .1 .0)
           also tt
 
-      value-no-less : NoneMet (collateralGrounds table t c) → collateralValue table t c ≤ collateralValue table t′ c′
-      unfolding collateralValue combinedHaircutOf
+      value-no-less : NoneMet (collateralGrounds table t c) → collateralValuation table t c .value ≤ collateralValuation table t′ c′ .value
+      unfolding collateralValuation valuationOf combinedHaircutOf
       value-no-less n =
           let haircut = haircut-no-more (item .before .goods) (item .before .listed) (item .fields .goods) (item .step) (item .fields .life) (was-eligible n) in
           let haircuts = haircuts-no-more (terms .fields .currency) (item .currency) haircut (period-no-longer (terms .fields .kind) (terms .fields .interval)) in
@@ -126,8 +127,8 @@ module _ {table : Table} (laws : TableLaws table) where
       pub collateral-no-less : outcomeValue (collateralOutcome table t c) ≤ outcomeValue (collateralOutcome table t′ c′)
       unfolding collateralOutcome collateralGround
       collateral-no-less =
-          value-mono (collateralValue table t c) (collateralValue table t′ c′) (collateralGrounds table t c) (collateralGrounds table t′ c′)
-          (collateral-leaves table t _ c) (λ n. (collateral-stays n, value-no-less n))
+          value-mono (c .amount) (c′ .amount) (collateralValuation table t c) (collateralValuation table t′ c′) (collateralGrounds table t c) (collateralGrounds table t′ c′)
+          (collateral-leaves table t _ _ c) (λ n. (collateral-stays n, value-no-less n))
 
     module _ {g g′ : Guarantee} (item : NoWorseGuarantee (t .currency) g g′) where
       weighs-no-more : providerWeightOf table g′ ≤ providerWeightOf table g
@@ -145,8 +146,8 @@ module _ {table : Table} (laws : TableLaws table) where
           also weight-stays (counterparty-same table terms) weighs-no-more (n .1 .1 .1 .1 .1 .1 .0)
           also tt
 
-      guaranteed-no-less : guaranteeValue t g ≤ guaranteeValue t′ g′
-      unfolding guaranteeValue
+      guaranteed-no-less : guaranteeValuation t g .value ≤ guaranteeValuation t′ g′ .value
+      unfolding guaranteeValuation valuationOf
       guaranteed-no-less =
           let haircut = currency-no-more (terms .fields .currency) (item .currency) (guarantee-mono (terms .fields .interval)) in
           recognised-no-less (terms .fields .residual) (hedged-no-less t t′ g g′ (terms .fields .amount) (item .fields .amount) (item .instrument)) haircut (item .fields .residual)
@@ -154,8 +155,8 @@ module _ {table : Table} (laws : TableLaws table) where
       guarantee-no-less : outcomeValue (guaranteeOutcome table t g) ≤ outcomeValue (guaranteeOutcome table t′ g′)
       unfolding guaranteeOutcome guaranteeGround
       guarantee-no-less =
-          value-mono (guaranteeValue t g) (guaranteeValue t′ g′) (guaranteeGrounds table t g) (guaranteeGrounds table t′ g′)
-          (guarantee-leaves table t _ g) (λ n. (guarantee-stays n, guaranteed-no-less))
+          value-mono (g .amount) (g′ .amount) (guaranteeValuation t g) (guaranteeValuation t′ g′) (guaranteeGrounds table t g) (guaranteeGrounds table t′ g′)
+          (guarantee-leaves table t _ _ g) (λ n. (guarantee-stays n, guaranteed-no-less))
 
       -- A GUARANTEE NO WORSE COVERS NO LESS BELOW ANY WEIGHT
       pub protection-no-less : (w : ℕ) → lowerWeighted w (protectionOf table t g) ≤ lowerWeighted w (protectionOf table t′ g′)

@@ -32,7 +32,7 @@ use Rattle.relief.specs.Exposure.{exposureAfter, piecesOf}
 use Rattle.relief.specs.Report.{noGuarantee, guaranteeReports, fullReport, refusedReport, reportUnder}
 use Rattle.relief.proofs.Reports.{portion-each, shares}
 use Rattle.relief.proofs.ValueBounds.{exposure-bound}
-use Rattle.relief_laws.proofs.Values.{left-out-value}
+use Rattle.relief_laws.proofs.Values.{left-out-nothing}
 
 module _ (table : Table) (d : Deal) where
   -- what holds of the report of accepted deals, and of the refusal, holds of every report
@@ -108,7 +108,7 @@ module _ (table : Table) (v : View) where
   left-out-zero i h =
       let inside : i < length (v .guarantees) = omega (arith, length-zip (reported table v) (v .guarantees) (shares table v) (portion-each table v)) in
       rw (report-at i inside) (λ ground.
-      let worthless = left-out-value (guaranteeOutcome table (v .terms) (guaranteeAt i)) ground in
+      let worthless = ap (λ x. x .value) (left-out-nothing (guaranteeOutcome table (v .terms) (guaranteeAt i)) ground) in
       (worthless, zero-covers-zero (exposureAfter table v) ps (take i ps) (pieceAt i) worthless))
 
 -- WHAT IS LEFT OUT HAS VALUE 0 AND COVERS 0, IN EVERY PLACE OF EVERY REPORT

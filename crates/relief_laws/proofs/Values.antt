@@ -12,10 +12,12 @@ use Rattle.base.specs.FirstMet.{Test, firstMet, NoneMet}
 use Rattle.base.proofs.Choice.{either, if-true, if-false}
 use Rattle.base.proofs.Rounding.{div-mono}
 use Rattle.valuation.specs.Protection.{keepShare, volatilityAdjustedValue, mismatched, maturityAdjusted, recognised}
+use Rattle.valuation.specs.Valuation.{noValuation}
+use Rattle.valuation.specs.declared.protection.Valuation.{Valuation}
 use Rattle.valuation.proofs.Values.{mismatched-le}
 use Rattle.relief.specs.declared.outcome.Outcome.{Outcome}
 use Rattle.relief.specs.declared.outcome.Outcome.the-variants.{Valued, LeftOut}
-use Rattle.relief.specs.Outcomes.{outcomeValue, outcomeGround, outcomeFor}
+use Rattle.relief.specs.Outcomes.{outcomeValuation, outcomeValue, outcomeGround, outcomeFor}
 use Rattle.relief.proofs.Outcomes.{LeaveOut, value-recognised, value-or-none}
 
 -- a larger amount, a smaller haircut: no smaller
@@ -44,13 +46,18 @@ pub maturity-adjusted-matched : (v cover term : ℕ) → term ≤ cover → matu
 unfolding maturityAdjusted
 maturity-adjusted-matched v cover term h = if-false _ _ _ (le-ltb cover term h)
 
--- shorter cover of a deal within five years
+-- shorter cover is a mismatch
+pub maturity-adjusted-mismatched : (v cover term : ℕ) → cover < term → maturityAdjusted v cover term ≡ mismatched v cover term
+unfolding maturityAdjusted
+maturity-adjusted-mismatched v cover term short = if-true _ _ _ (lt-ltb cover term short)
+
+-- of a deal within five years
 pub maturity-adjusted-short : (v cover term : ℕ) → cover < term → term ≤ 1800 → maturityAdjusted v cover term ≡ v * (cover - 90) / (term - 90)
-unfolding maturityAdjusted mismatched
+unfolding mismatched
 maturity-adjusted-short v cover term short h =
     let e : min term 1800 ≡ term = omega arith in
     let f : min term cover ≡ cover = omega arith in
-    if-true _ _ _ (lt-ltb cover term short) ∙ rw (e, f)
+    maturity-adjusted-mismatched v cover term short ∙ rw (e, f)
 
 -- a larger value, longer cover: no smaller
 pub maturity-adjusted-mono : {v v′ cover cover′ : ℕ} (term : ℕ) → v ≤ v′ → cover ≤ cover′ → maturityAdjusted v cover term ≤ maturityAdjusted v′ cover′ term
@@ -65,16 +72,17 @@ pub recognised-mono :
 unfolding recognised
 recognised-mono term ha hc hr = maturity-adjusted-mono term (adjusted-value-mono ha hc) hr
 
--- an outcome with a ground has value 0
-pub left-out-value : (o : Outcome) → outcomeGround o ≢ 0 → outcomeValue o ≡ 0
-unfolding outcomeGround outcomeValue
-left-out-value (Valued v) h = absurd (h refl)
-left-out-value (LeftOut g) h = refl
+-- an outcome with a ground has value 0, and no loss
+pub left-out-nothing : (o : Outcome) → outcomeGround o ≢ 0 → outcomeValuation o ≡ noValuation
+unfolding outcomeGround outcomeValuation
+left-out-nothing (Valued v) h = absurd (h refl)
+left-out-nothing (LeftOut g a) h = refl
 
 -- no smaller, where recognition and then the value are kept
-pub value-mono : (v v′ : ℕ) (ts ts′ : List (Test ℕ)) → LeaveOut v ts → (NoneMet ts → NoneMet ts′ × (v ≤ v′)) →
-    outcomeValue (outcomeFor (firstMet ts) v) ≤ outcomeValue (outcomeFor (firstMet ts′) v′)
-value-mono v v′ ts ts′ out kept =
+pub value-mono :
+    (a a′ : ℕ) (v v′ : Valuation) (ts ts′ : List (Test ℕ)) → LeaveOut a v ts → (NoneMet ts → NoneMet ts′ × (v .value ≤ v′ .value)) →
+    outcomeValue (outcomeFor (firstMet ts) a v) ≤ outcomeValue (outcomeFor (firstMet ts′) a′ v′)
+value-mono a a′ v v′ ts ts′ out kept =
     ⊎-elim (λ z. omega (arith, z))
-    (λ n. omega (arith, value-recognised v ts n, value-recognised v′ ts′ (kept n .0), kept n .1))
-    (value-or-none v ts out)
+    (λ n. omega (arith, value-recognised a v ts n, value-recognised a′ v′ ts′ (kept n .0), kept n .1))
+    (value-or-none a v ts out)

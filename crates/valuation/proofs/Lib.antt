@@ -1,3 +1,4 @@
 pub mod PartialRecognition
 pub mod CombinedHaircut
 pub mod Values
+pub mod Valuations

@@ -1,4 +1,5 @@
 pub mod Haircuts
 pub mod Protection
 pub mod Restructuring
+pub mod Valuation
 pub mod Exposure

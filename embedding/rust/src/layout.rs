@@ -8,7 +8,7 @@ use crate::layout;
 /// The layout of numbers that this package is written for: its lengths, its
 /// named fields and its words. The header says what each layout is, and when the
 /// number rises.
-pub const LAYOUT: u64 = 3;
+pub const LAYOUT: u64 = 4;
 
 /// Stops the program at its first call where the library has another layout: it
 /// would take one number for another, which no answer of its own could tell. The
@@ -38,14 +38,14 @@ mod tests {
     }
 
     #[test]
-    #[should_panic = "libhadlephoga.a has layout 2, this package is written for 3"]
+    #[should_panic = "libhadlephoga.a has layout 3, this package is written for 4"]
     fn an_earlier_layout() {
-        compare(2);
+        compare(3);
     }
 
     #[test]
-    #[should_panic = "has layout 4"]
+    #[should_panic = "has layout 5"]
     fn a_later_layout() {
-        compare(4);
+        compare(5);
     }
 }

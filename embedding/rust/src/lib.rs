@@ -2,8 +2,9 @@
 //!
 //! A book of deals is answered by [`answer_book`], four numbers a deal. One
 //! deal is opened by [`open`], gets its items by [`add_collateral`],
-//! [`add_guarantee`] and [`add_swap`], and is reported by [`report`], with the
-//! value or ground of every item. All answer every input with figures or a
+//! [`add_guarantee`] and [`add_swap`], and is reported by [`report`], with what
+//! became of every item: its value and where the rest of its amount went, or the
+//! ground for leaving it out. All answer every input with figures or a
 //! [`Refusal`]; nothing panics, save the first call in a program that was linked
 //! with a library of another layout of numbers than [`LAYOUT`].
 //!
@@ -43,6 +44,25 @@
 //! assert_eq!(hadlephoga::answer_book(book, &mut results), Ok(1));
 //! assert_eq!(results, [1, 0, 900, 378]);
 //! ```
+//!
+//! Cash of 1,000,000 in another currency, for half the days of the deal, and where
+//! it went:
+//!
+//! ```
+//! use hadlephoga::{report, Collateral, Outcome, Record, Terms, Valuation};
+//!
+//! let terms = Terms::from_numbers(&[2_000_000, 3, 0, 0, 978, 3, 1, 1800, 1, 0, 0, 1]);
+//! let cash = Collateral::from_numbers(&[1_000_000, 1, 0, 0, 840, 900, 900, 1, 1, 1, 0]);
+//! let report = report(&Record::new(terms, &[cash], &[])).unwrap();
+//! let valuation = Valuation {
+//!     value: 420_092,
+//!     haircut_loss: 113_138,
+//!     maturity_loss: 466_770,
+//!     cut_loss: 0,
+//! };
+//! assert_eq!(report.collateral[0], Outcome::Valued(valuation));
+//! assert_eq!(valuation.value + valuation.losses(), cash.amount);
+//! ```
 
 mod calls;
 mod layout;
@@ -62,4 +82,6 @@ pub use record::{
     RECORD_LENGTH, SWAP_WITHOUT_RESTRUCTURING, SWAP_WITH_RESTRUCTURING,
 };
 pub use refusal::Refusal;
-pub use report::{Cover, Ground, Outcome, Report, COVER_WIDTH, OUTCOME_WIDTH, REPORT_LENGTH};
+pub use report::{
+    Cover, Ground, Outcome, Report, Valuation, COVER_WIDTH, OUTCOME_WIDTH, REPORT_LENGTH,
+};

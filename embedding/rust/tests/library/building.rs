@@ -2,6 +2,7 @@
 //! refused call leaves alone.
 
 use crate::sample::{held, CASH, GUARANTEE, LOAN};
+use crate::sums::reported;
 use hadlephoga::{
     add_collateral, add_collateral_numbers, add_guarantee, add_guarantee_numbers, add_swap, open,
     open_numbers, report, Collateral, Guarantee, HeldGuarantee, Record, Refusal, Swap, Terms,
@@ -93,7 +94,7 @@ fn full_lists() {
     let (_, item) = refused_guarantees()[0];
     assert_eq!(add_guarantee(&mut record, &item), Err(Refusal(6)));
     assert_eq!(record, full);
-    assert!(report(&record).is_ok());
+    assert_eq!(reported(&record).exposure, 0);
 }
 
 /// Zeros stand beside a refusal, which no other call accepts.

@@ -2,12 +2,12 @@
 //! fields that hold them and in every place of both lists.
 
 use crate::lines::{collateral_line, guarantee_line, headed, terms_line};
-use crate::sample::{held, CASH, GUARANTEE, LOAN};
+use crate::sample::{held, valued, whole, CASH, GUARANTEE, LOAN};
+use crate::sums;
 use hadlephoga::{
     add_collateral, add_collateral_numbers, add_guarantee, add_guarantee_numbers, add_swap_numbers,
-    answer_book, open, open_numbers, report, report_numbers, Collateral, Cover, Guarantee,
-    HeldGuarantee, Outcome, Record, Refusal, Report, Swap, Terms, ITEMS, RECORD_LENGTH,
-    REPORT_LENGTH,
+    answer_book, open, open_numbers, report_numbers, Collateral, Cover, Guarantee, HeldGuarantee,
+    Record, Refusal, Report, Swap, Terms, ITEMS, RECORD_LENGTH, REPORT_LENGTH,
 };
 
 const LONGEST: u64 = 100_000;
@@ -52,14 +52,14 @@ const PROMISE: Guarantee = Guarantee {
 };
 
 /// Days above 1,800 are all alike, so this is the report of the full repo
-/// whatever they are: 1,040,000 less 48,000 for each stock, and 10,000 of each
-/// guarantee at weight 0.
+/// whatever they are: 1,040,000 less 48,000 for each stock, which loses 4 percent, and
+/// 10,000 of each guarantee at weight 0.
 fn reported() -> Report {
     Report {
         exposure: 272_000,
-        collateral: [Outcome::Valued(48_000); ITEMS],
+        collateral: [valued(48_000, [2_000, 0, 0]); ITEMS],
         guarantees: [Cover {
-            outcome: Outcome::Valued(10_000),
+            outcome: whole(10_000),
             portion: 10_000,
         }; ITEMS],
         rest: 112_000,
@@ -116,7 +116,7 @@ fn longest_everywhere() {
     let numbers = record.to_numbers();
     let longest = (0..RECORD_LENGTH).filter(|place| numbers[*place] == LONGEST);
     assert_eq!(longest.collect::<Vec<_>>(), places());
-    assert_eq!(report(&record), Ok(reported()));
+    assert_eq!(sums::reported(&record), reported());
 }
 
 /// In one field at a time, of a record that is full.
@@ -129,7 +129,7 @@ fn reporting() {
             let mut numbers = full;
             numbers[place] = days;
             let record = Record::from_numbers(&numbers);
-            assert_eq!(report(&record), Ok(reported()), "{days} in place {place}");
+            assert_eq!(sums::reported(&record), reported(), "{days} in {place}");
         }
         for days in ABOVE {
             let mut numbers = full;

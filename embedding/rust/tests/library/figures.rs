@@ -1,15 +1,15 @@
 //! The figures at the edges of document 01, each taken from the report of a
 //! whole deal.
 
-use crate::sample::{held, CASH, GUARANTEE, LOAN};
-use hadlephoga::Outcome::{LeftOut, Valued};
-use hadlephoga::{report, Collateral, Ground, Guarantee, Outcome, Record, Report, Terms};
+use crate::sample::{held, left_out, valued, whole, CASH, GUARANTEE, LOAN};
+use crate::sums;
+use hadlephoga::{Collateral, Guarantee, Outcome, Record, Report, Terms};
 
 fn reported(terms: Terms, collateral: &[Collateral], guarantees: &[Guarantee]) -> Report {
-    report(&Record::new(terms, collateral, &held(guarantees))).expect("an accepted deal")
+    sums::reported(&Record::new(terms, collateral, &held(guarantees)))
 }
 
-/// What one item of collateral of a loan with this kind and interval is worth.
+/// What becomes of one item of collateral of a loan with this kind and interval.
 fn collateral(kind: u64, interval: u64, item: Collateral) -> Outcome {
     let terms = Terms {
         kind,
@@ -29,6 +29,15 @@ fn debt(goods: u64, step: u64, issue_life: u64) -> Collateral {
     }
 }
 
+/// A million that loses this by its haircut, or by its term.
+fn by_haircut(loss: u64) -> Outcome {
+    valued(1_000_000 - loss, [loss, 0, 0])
+}
+
+fn by_maturity(loss: u64) -> Outcome {
+    valued(1_000_000 - loss, [0, loss, 0])
+}
+
 fn in_dollars(item: Collateral) -> Collateral {
     Collateral {
         currency: 840,
@@ -39,29 +48,17 @@ fn in_dollars(item: Collateral) -> Collateral {
 #[test]
 fn scaling() {
     // 80000 for another currency; n is 5, 10, 20.
-    assert_eq!(
-        collateral(1, 1, in_dollars(CASH)),
-        Valued(1_000_000 - 56569)
-    );
-    assert_eq!(
-        collateral(2, 1, in_dollars(CASH)),
-        Valued(1_000_000 - 80000)
-    );
-    assert_eq!(
-        collateral(3, 1, in_dollars(CASH)),
-        Valued(1_000_000 - 113138)
-    );
-    assert_eq!(collateral(3, 1, in_dollars(CASH)), Valued(886862));
+    assert_eq!(collateral(1, 1, in_dollars(CASH)), by_haircut(56569));
+    assert_eq!(collateral(2, 1, in_dollars(CASH)), by_haircut(80000));
+    assert_eq!(collateral(3, 1, in_dollars(CASH)), by_haircut(113138));
+    assert_eq!(collateral(3, 1, in_dollars(CASH)).value(), 886862);
     // 10000, n 40.
-    assert_eq!(
-        collateral(3, 21, debt(3, 1, 360)),
-        Valued(1_000_000 - 20000)
-    );
+    assert_eq!(collateral(3, 21, debt(3, 1, 360)), by_haircut(20000));
 }
 
 #[test]
 fn haircut_above_the_whole_is_the_value_0() {
-    assert_eq!(collateral(3, 250, debt(8, 0, 0)), Valued(0));
+    assert_eq!(collateral(3, 250, debt(8, 0, 0)), by_haircut(1_000_000));
     let loan = Terms {
         interval: 250,
         ..LOAN
@@ -71,8 +68,8 @@ fn haircut_above_the_whole_is_the_value_0() {
 
 #[test]
 fn life_bands() {
-    assert_eq!(collateral(2, 1, debt(3, 3, 360)), Valued(980000));
-    assert_eq!(collateral(2, 1, debt(3, 3, 361)), Valued(940000));
+    assert_eq!(collateral(2, 1, debt(3, 3, 360)), by_haircut(20000));
+    assert_eq!(collateral(2, 1, debt(3, 3, 361)), by_haircut(60000));
 }
 
 #[test]
@@ -82,12 +79,16 @@ fn mismatch() {
         original_term,
         ..CASH
     };
-    assert_eq!(collateral(3, 1, pledge(900, 1080)), Valued(473684));
-    assert_eq!(collateral(3, 1, pledge(91, 1080)), Valued(584));
-    assert_eq!(collateral(3, 1, pledge(90, 1080)), LeftOut(Ground(26)));
-    assert_eq!(collateral(3, 1, pledge(300, 359)), LeftOut(Ground(25)));
+    let lost = |residual_term, original_term| {
+        let outcome = collateral(3, 1, pledge(residual_term, original_term));
+        (outcome.value(), outcome)
+    };
+    assert_eq!(lost(900, 1080), (473684, by_maturity(526316)));
+    assert_eq!(lost(91, 1080), (584, by_maturity(999416)));
+    assert_eq!(lost(90, 1080), (0, left_out(26, 1_000_000)));
+    assert_eq!(lost(300, 359), (0, left_out(25, 1_000_000)));
     // 1,000,000 × 210 / 1,710
-    assert_eq!(collateral(3, 1, pledge(300, 360)), Valued(122807));
+    assert_eq!(lost(300, 360), (122807, by_maturity(877193)));
 }
 
 #[test]
@@ -98,7 +99,7 @@ fn guarantee_in_another_currency() {
     };
     for kind in 1..=3 {
         let report = reported(Terms { kind, ..LOAN }, &[], &[guarantee]);
-        assert_eq!(report.guarantees[0].outcome, Valued(184000));
+        assert_eq!(report.guarantees[0].outcome, valued(184000, [16000, 0, 0]));
         assert_eq!(report.guarantees[0].portion, 184000);
         assert_eq!(report.rest, 816000);
     }
@@ -140,7 +141,7 @@ fn cover_in_rising_order_of_weight() {
     };
     let report = reported(loan, &[], &[heavy, light]);
     assert_eq!(report.exposure, 100);
-    assert_eq!(report.guarantees[0].outcome, Valued(80));
+    assert_eq!(report.guarantees[0].outcome, whole(80));
     assert_eq!(report.guarantees[0].portion, 40);
     assert_eq!(report.guarantees[1].portion, 60);
     assert_eq!(report.rest, 0);
@@ -170,14 +171,14 @@ fn provider_of_equal_weight() {
         ..GUARANTEE
     };
     let cover = reported(loan, &[], &[bank]).guarantees[0];
-    assert_eq!(cover.outcome, LeftOut(Ground(29)));
+    assert_eq!(cover.outcome, left_out(29, 200_000));
     assert_eq!(cover.portion, 0);
 }
 
 #[test]
 fn places_past_a_count_hold_nothing() {
     let report = reported(LOAN, &[CASH], &[GUARANTEE]);
-    assert_eq!(report.collateral[1..], [Valued(0); 15]);
+    assert_eq!(report.collateral[1..], [whole(0); 15]);
     assert!(report.guarantees[1..]
         .iter()
         .all(|cover| *cover == Default::default()));

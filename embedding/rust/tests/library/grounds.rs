@@ -1,8 +1,9 @@
 //! Each ground on an item of its own, and the words of refusals and grounds. All
 //! other conditions are met, so that two that are exchanged show.
 
-use crate::sample::{held, CASH, GUARANTEE, LOAN};
-use hadlephoga::{report, Collateral, Ground, Guarantee, Outcome, Record, Refusal};
+use crate::sample::{held, left_out, valued, whole, CASH, GUARANTEE, LOAN};
+use crate::sums::reported;
+use hadlephoga::{Collateral, Ground, Guarantee, Outcome, Record, Refusal};
 
 /// Senior paper of a bank, listed; valued.
 const PAPER: Collateral = Collateral {
@@ -14,93 +15,44 @@ const PAPER: Collateral = Collateral {
 };
 
 fn of_collateral(item: Collateral) -> Outcome {
-    let report = report(&Record::new(LOAN, &[item], &[])).expect("an accepted deal");
-    report.collateral[0]
+    reported(&Record::new(LOAN, &[item], &[])).collateral[0]
 }
 
 fn of_guarantee(item: Guarantee) -> Outcome {
-    let report = report(&Record::new(LOAN, &[], &held(&[item]))).expect("an accepted deal");
+    let report = reported(&Record::new(LOAN, &[], &held(&[item])));
     report.guarantees[0].outcome
 }
 
 #[test]
 fn collateral() {
     // 20000 at n 20 is 28285.
-    assert_eq!(of_collateral(PAPER), Outcome::Valued(971_715));
-    for (ground, item) in [
-        (21, Collateral { lawful: 0, ..PAPER }),
-        (
-            22,
-            Collateral {
-                unrelated: 0,
-                ..PAPER
-            },
-        ),
-        (
-            23,
-            Collateral {
-                unreflected: 0,
-                ..PAPER
-            },
-        ),
-        (24, Collateral { listed: 0, ..PAPER }),
-    ] {
-        assert_eq!(
-            of_collateral(item),
-            Outcome::LeftOut(Ground(ground)),
-            "{item:?}"
-        );
+    assert_eq!(of_collateral(PAPER), valued(971_715, [28_285, 0, 0]));
+    let mut items = [21, 22, 23, 24, 25, 26].map(|ground| (ground, PAPER));
+    items[0].1.lawful = 0;
+    items[1].1.unrelated = 0;
+    items[2].1.unreflected = 0;
+    items[3].1.listed = 0;
+    (items[4].1.residual_term, items[4].1.original_term) = (359, 359);
+    items[5].1.residual_term = 90;
+    for (ground, item) in items {
+        assert_eq!(of_collateral(item), left_out(ground, 1_000_000), "{item:?}");
     }
 }
 
 #[test]
 fn guarantees() {
-    assert_eq!(of_guarantee(GUARANTEE), Outcome::Valued(200_000));
-    for (ground, item) in [
-        (
-            21,
-            Guarantee {
-                lawful: 0,
-                ..GUARANTEE
-            },
-        ),
-        (
-            27,
-            Guarantee {
-                direct: 0,
-                ..GUARANTEE
-            },
-        ),
-        (
-            23,
-            Guarantee {
-                unreflected: 0,
-                ..GUARANTEE
-            },
-        ),
-        (
-            28,
-            Guarantee {
-                class: 3,
-                step: 0,
-                ..GUARANTEE
-            },
-        ),
-        // A corporate at step 3 weighs as much as the unrated counterparty.
-        (
-            29,
-            Guarantee {
-                class: 3,
-                step: 3,
-                ..GUARANTEE
-            },
-        ),
-    ] {
-        assert_eq!(
-            of_guarantee(item),
-            Outcome::LeftOut(Ground(ground)),
-            "{item:?}"
-        );
+    assert_eq!(of_guarantee(GUARANTEE), whole(200_000));
+    let mut items = [21, 27, 23, 28, 25, 26, 29].map(|ground| (ground, GUARANTEE));
+    items[0].1.lawful = 0;
+    items[1].1.direct = 0;
+    items[2].1.unreflected = 0;
+    (items[3].1.class, items[3].1.step) = (3, 0);
+    (items[4].1.residual_term, items[4].1.original_term) = (359, 359);
+    items[5].1.residual_term = 90;
+    // A corporate at step 3 weighs as much as the unrated counterparty.
+    (items[6].1.class, items[6].1.step) = (3, 3);
+    for (ground, item) in items {
+        assert_eq!(of_guarantee(item), left_out(ground, 200_000), "{item:?}");
     }
 }
 

@@ -1,10 +1,10 @@
 //! Records of any numbers, and record and report lists of any length.
 
-use crate::sample::{held, CASH, GUARANTEE, LOAN};
-use hadlephoga::Outcome::{LeftOut, Valued};
+use crate::sample::{held, left_out, valued, CASH, GUARANTEE, LOAN};
+use crate::sums::reported;
 use hadlephoga::{
-    report, report_numbers, Collateral, Cover, Ground, Guarantee, HeldGuarantee, Record, Refusal,
-    Report, Swap, Terms, ITEMS, RECORD_LENGTH, REPORT_LENGTH,
+    report, report_numbers, Collateral, Cover, Guarantee, HeldGuarantee, Record, Refusal, Report,
+    Swap, Terms, COVER_WIDTH, ITEMS, OUTCOME_WIDTH, RECORD_LENGTH, REPORT_LENGTH,
 };
 
 const MARK: u64 = 0xA5A5_A5A5_A5A5_A5A5;
@@ -20,7 +20,7 @@ fn is_refused(record: &Record) -> bool {
 #[test]
 fn layout_of_terms_and_counts() {
     assert_eq!(RECORD_LENGTH, 366);
-    assert_eq!(REPORT_LENGTH, 83);
+    assert_eq!(REPORT_LENGTH, 211);
     let numbers = std::array::from_fn(|place| place as u64 + 1);
     let record = Record::from_numbers(&numbers);
     let terms = Terms {
@@ -113,28 +113,44 @@ fn layout_of_sent_items() {
     assert_eq!(Swap::from_numbers(&sent), swap);
 }
 
+/// Where the numbers of an item begin in a report, counted from 1.
+fn collateral_place(item: usize) -> usize {
+    2 + item * OUTCOME_WIDTH
+}
+
+fn guarantee_place(item: usize) -> usize {
+    98 + item * COVER_WIDTH
+}
+
+/// Every number stands for its place. With a ground an item has nothing but that and
+/// its whole amount, without one its value and losses.
 #[test]
 fn layout_of_report() {
-    let numbers = std::array::from_fn(|place| place as u64 + 1);
+    let numbers: [u64; REPORT_LENGTH] = std::array::from_fn(|place| place as u64 + 1);
     let report = Report::from_numbers(&numbers);
     assert_eq!(report.exposure, 1);
-    assert_eq!(report.collateral[0], LeftOut(Ground(3)));
-    assert_eq!(report.collateral[15], LeftOut(Ground(33)));
-    let cover = |ground, portion| Cover {
-        outcome: LeftOut(Ground(ground)),
-        portion,
-    };
-    assert_eq!(report.guarantees[0], cover(35, 36));
-    assert_eq!(report.guarantees[15], cover(80, 81));
-    assert_eq!(report.rest, 82);
-    assert_eq!(report.weighted_amount, 83);
-    // A value is given where there is no ground.
-    let mut numbers = [0; REPORT_LENGTH];
-    (numbers[1], numbers[33], numbers[35]) = (7, 9, 8);
-    let report = Report::from_numbers(&numbers);
-    assert_eq!(report.collateral[0], Valued(7));
-    let (outcome, portion) = (Valued(9), 8);
-    assert_eq!(report.guarantees[0], Cover { outcome, portion });
+    assert_eq!([report.rest, report.weighted_amount], [210, 211]);
+    let mut without = numbers;
+    for item in 0..ITEMS {
+        without[collateral_place(item)] = 0;
+        without[guarantee_place(item)] = 0;
+    }
+    let without = Report::from_numbers(&without);
+    assert_eq!(without.exposure, 1);
+    assert_eq!([without.rest, without.weighted_amount], [210, 211]);
+    let given = |first| left_out(first + 1, first + 5);
+    let plain = |first| valued(first, [first + 2, first + 3, first + 4]);
+    for item in 0..ITEMS {
+        let first = collateral_place(item) as u64;
+        assert_eq!(report.collateral[item], given(first));
+        assert_eq!(without.collateral[item], plain(first));
+        let first = guarantee_place(item) as u64;
+        let portion = first + 6;
+        let outcome = given(first);
+        assert_eq!(report.guarantees[item], Cover { outcome, portion });
+        let outcome = plain(first);
+        assert_eq!(without.guarantees[item], Cover { outcome, portion });
+    }
 }
 
 #[test]
@@ -143,29 +159,33 @@ fn record_lists_of_other_lengths() {
     let mut longer = numbers.to_vec();
     longer.push(0);
     for list in [&[] as &[u64], &numbers[..RECORD_LENGTH - 1], &longer] {
-        let mut report = [MARK; 90];
+        let mut report = [MARK; REPORT_LENGTH + 7];
         assert_eq!(report_numbers(list, &mut report), 40);
         assert_eq!(report[..REPORT_LENGTH], [0; REPORT_LENGTH]);
         assert_eq!(report[REPORT_LENGTH..], [MARK; 7]);
         // 13 comes before 40.
-        assert_eq!(report_numbers(list, &mut report[..82]), 13);
+        let mut report = [MARK; REPORT_LENGTH];
+        assert_eq!(report_numbers(list, &mut report[..210]), 13);
+        assert_eq!(report, [MARK; REPORT_LENGTH]);
     }
 }
 
 #[test]
 fn report_lists_of_every_length() {
     let numbers = record().to_numbers();
-    for length in [0, 1, 82] {
+    for length in 0..REPORT_LENGTH {
         let mut report = vec![MARK; length];
         assert_eq!(report_numbers(&numbers, &mut report), 13);
         assert!(report.iter().all(|number| *number == MARK));
     }
     let mut exact = [MARK; REPORT_LENGTH];
     assert_eq!(report_numbers(&numbers, &mut exact), 0);
-    let mut longer = [MARK; 90];
-    assert_eq!(report_numbers(&numbers, &mut longer), 0);
-    assert_eq!(longer[..REPORT_LENGTH], exact);
-    assert_eq!(longer[REPORT_LENGTH..], [MARK; 7]);
+    for longer in 1..8 {
+        let mut list = vec![MARK; REPORT_LENGTH + longer];
+        assert_eq!(report_numbers(&numbers, &mut list), 0);
+        assert_eq!(list[..REPORT_LENGTH], exact);
+        assert_eq!(list[REPORT_LENGTH..], vec![MARK; longer]);
+    }
     assert_eq!(Ok(Report::from_numbers(&exact)), report(&record()));
 }
 
@@ -216,8 +236,8 @@ fn places_past_a_count_do_not_matter() {
     record.guarantees[1..].fill(HeldGuarantee::from_numbers(
         &[u64::MAX; HeldGuarantee::LENGTH],
     ));
-    assert_eq!(report(&record), report(&clean));
-    assert!(report(&clean).is_ok());
+    // Their own numbers in the report are 0.
+    assert_eq!(reported(&record), reported(&clean));
 }
 
 const LIMIT: u64 = 1_000_000_000_000;

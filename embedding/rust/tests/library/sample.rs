@@ -1,7 +1,7 @@
 //! The sample book of document 01, and plain deals and items that a test
 //! changes in a field or two.
 
-use hadlephoga::{Collateral, Guarantee, HeldGuarantee, Terms};
+use hadlephoga::{Collateral, Ground, Guarantee, HeldGuarantee, Outcome, Terms, Valuation};
 
 pub const SAMPLE: &[u8] = b"CRM\t1\n\
     D\t1000000\t3\t0\t978\t3\t1\t1800\t1\t0\t0\n\
@@ -56,6 +56,27 @@ pub const GUARANTEE: Guarantee = Guarantee {
     direct: 1,
     unreflected: 1,
 };
+
+/// An item that is worth this after losses by haircut, maturity and cut.
+pub fn valued(value: u64, [haircut_loss, maturity_loss, cut_loss]: [u64; 3]) -> Outcome {
+    Outcome::Valued(Valuation {
+        value,
+        haircut_loss,
+        maturity_loss,
+        cut_loss,
+    })
+}
+
+/// An item that is worth its amount.
+pub fn whole(amount: u64) -> Outcome {
+    valued(amount, [0; 3])
+}
+
+/// An item of this amount that is left out on this ground.
+pub fn left_out(ground: u64, amount: u64) -> Outcome {
+    let ground = Ground(ground);
+    Outcome::LeftOut { ground, amount }
+}
 
 /// These items as a record holds them.
 pub fn held<Item: Copy + Into<HeldGuarantee>>(items: &[Item]) -> Vec<HeldGuarantee> {

@@ -2,11 +2,11 @@
 //! editions and sovereign's steps. Weights are those of the papers' tables.
 
 use crate::lines::{guarantee_line, headed, terms_line};
-use crate::sample::{held, CASH, GUARANTEE, LOAN};
-use hadlephoga::Outcome::{LeftOut, Valued};
+use crate::sample::{held, left_out, whole, CASH, GUARANTEE, LOAN};
+use crate::sums;
 use hadlephoga::{
-    add_collateral, add_guarantee, answer_book, open, report, Ground, Guarantee, Outcome, Record,
-    Refusal, Report, Terms,
+    add_collateral, add_guarantee, answer_book, open, report, Guarantee, Outcome, Record, Refusal,
+    Report, Terms,
 };
 
 const STEPS: std::ops::RangeInclusive<u64> = 0..=6;
@@ -18,7 +18,7 @@ const RATED: [[u64; 6]; 2] = [[20, 50, 50, 100, 100, 150], [20, 50, 100, 100, 15
 const UNKNOWN: [u64; 8] = [0, 4, 5, 256, 257, 259, (1 << 32) + 3, u64::MAX];
 
 fn reported(terms: Terms, guarantees: &[Guarantee]) -> Report {
-    report(&Record::new(terms, &[], &held(guarantees))).expect("an accepted deal")
+    sums::reported(&Record::new(terms, &[], &held(guarantees)))
 }
 
 /// A loan of 100 to a party, whose weight is then the weighted amount.
@@ -90,7 +90,7 @@ fn unrated_other_entities() {
     for step in STEPS {
         for edition in [1, 2, 3] {
             let report = reported(loan(edition, 3, 6, 0), &[guarantee(3, 0, step)]);
-            assert_eq!(report.guarantees[0].outcome, LeftOut(Ground(28)));
+            assert_eq!(report.guarantees[0].outcome, left_out(28, 200_000));
         }
     }
 }
@@ -99,8 +99,8 @@ fn unrated_other_entities() {
 #[test]
 fn ground_29() {
     let outcome = |terms, item| -> Outcome { reported(terms, &[item]).guarantees[0].outcome };
-    let left_out = LeftOut(Ground(29));
-    let valued = Valued(200_000);
+    let left_out = left_out(29, 200_000);
+    let valued = whole(200_000);
     for step in STEPS {
         let bank = guarantee(2, 0, step);
         let weight = BANK[step as usize];

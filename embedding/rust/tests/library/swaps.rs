@@ -4,12 +4,12 @@
 use std::slice;
 
 use crate::lines::{guarantee_line, headed, swap_line, terms_line};
-use crate::sample::{held, CASH, GUARANTEE, LOAN};
-use hadlephoga::Outcome::{LeftOut, Valued};
+use crate::sample::{held, left_out, valued, whole, CASH, GUARANTEE, LOAN};
+use crate::sums::reported;
 use hadlephoga::{
     add_collateral, add_guarantee, add_guarantee_numbers, add_swap, add_swap_numbers, answer_book,
-    open, report, Collateral, Cover, Ground, Guarantee, HeldGuarantee, Outcome, Record, Refusal,
-    Report, Swap, Terms, GUARANTEE_INSTRUMENT, ITEMS, SWAP_WITHOUT_RESTRUCTURING,
+    open, report, Collateral, Cover, Guarantee, HeldGuarantee, Outcome, Record, Refusal, Swap,
+    Terms, Valuation, GUARANTEE_INSTRUMENT, ITEMS, SWAP_WITHOUT_RESTRUCTURING,
     SWAP_WITH_RESTRUCTURING,
 };
 
@@ -45,12 +45,8 @@ fn built(terms: Terms, collateral: &[Collateral], swaps: &[Swap]) -> Record {
     record
 }
 
-fn reported(record: &Record) -> Report {
-    report(record).expect("an accepted deal")
-}
-
-/// What the only swap of a deal is worth.
-fn value(terms: Terms, item: Swap) -> Outcome {
+/// What becomes of the only swap of a deal.
+fn outcome(terms: Terms, item: Swap) -> Outcome {
     reported(&built(terms, &[], &[item])).guarantees[0].outcome
 }
 
@@ -222,7 +218,7 @@ fn the_seventeenth_of_both() {
         assert_eq!(add_guarantee(&mut record, &GUARANTEE), Err(Refusal(6)));
         assert_eq!(add_swap(&mut record, &swap), Err(Refusal(6)));
         assert_eq!(record, full);
-        assert!(report(&record).is_ok());
+        assert_eq!(reported(&record).exposure, 1_000_000);
         // Collateral has places of its own.
         assert_eq!(add_collateral(&mut record, &CASH), Ok(()));
     }
@@ -254,7 +250,7 @@ fn no_such_instrument_past_the_count() {
         for place in &mut record.guarantees[1..] {
             place.instrument = instrument;
         }
-        assert_eq!(report(&record), report(&clean));
+        assert_eq!(reported(&record), reported(&clean));
         assert_eq!(add_swap(&mut record, &as_swap(GUARANTEE, 1)), Ok(()));
         assert_eq!(add_guarantee(&mut record, &GUARANTEE), Ok(()));
         let instruments = record.guarantees.map(|item| item.instrument);
@@ -297,9 +293,11 @@ fn cut_by_the_deals_amount() {
                 ..LOAN
             };
             let swaps = [0, 1].map(|entry| as_swap(of(amount), entry));
-            assert_eq!(value(terms, swaps[0]), Valued(due), "{amount} {deal}");
+            // The cut takes what stands above the deal's amount too.
+            let cut = valued(due, [0, 0, amount - due]);
+            assert_eq!(outcome(terms, swaps[0]), cut, "{amount} {deal}");
             // With the condition the whole amount counts, above the deal's too.
-            assert_eq!(value(terms, swaps[1]), Valued(amount), "{amount} {deal}");
+            assert_eq!(outcome(terms, swaps[1]), whole(amount), "{amount} {deal}");
             // A sovereign at step 1 weighs 0, the unrated corporate 100.
             let report = reported(&built(terms, &[], &swaps[..1]));
             assert_eq!(report.guarantees[0].portion, due);
@@ -320,11 +318,11 @@ fn the_cut_does_not_look_at_the_exposure() {
     let cash = Collateral { amount, ..CASH };
     let report = reported(&built(LOAN, &[cash], &[as_swap(of(500_000), 0)]));
     assert_eq!(report.exposure, 100_000);
-    let cover = |value, portion| Cover {
-        outcome: Valued(value),
+    let cover = |value, cut_loss, portion| Cover {
+        outcome: valued(value, [0, 0, cut_loss]),
         portion,
     };
-    assert_eq!(report.guarantees[0], cover(300_000, 100_000));
+    assert_eq!(report.guarantees[0], cover(300_000, 200_000, 100_000));
     // Equity is raised by 25%, at a holding period of ten days.
     let repo = Terms {
         kind: 1,
@@ -336,11 +334,11 @@ fn the_cut_does_not_look_at_the_exposure() {
     let cash = Collateral { amount, ..CASH };
     let report = reported(&built(repo, &[cash], &[as_swap(of(1_200_000), 0)]));
     assert_eq!(report.exposure, 1_000_000);
-    assert_eq!(report.guarantees[0], cover(600_000, 600_000));
+    assert_eq!(report.guarantees[0], cover(600_000, 600_000, 600_000));
 }
 
 /// The cut comes first, then the haircut of 8% for another currency, then the
-/// maturity's 810 / 1,710; each is rounded down.
+/// maturity's 810 / 1,710; each is rounded down, and each loses what it takes.
 #[test]
 fn currency_and_maturity_follow() {
     let dollars = |amount| Guarantee {
@@ -352,17 +350,28 @@ fn currency_and_maturity_follow() {
         original_term: 1080,
         ..item
     };
-    let values = |item| [0, 1].map(|entry| value(LOAN, as_swap(item, entry)).value());
-    assert_eq!(values(dollars(200_000)), [110_400, 184_000]);
-    assert_eq!(values(short(of(200_000))), [56_842, 94_736]);
-    assert_eq!(values(short(dollars(200_000))), [52_294, 87_157]);
+    let lost = |item, without: (u64, [u64; 3]), with: (u64, [u64; 2])| {
+        let due = valued(without.0, without.1);
+        assert_eq!(outcome(LOAN, as_swap(item, 0)), due, "{item:?}");
+        let (value, [haircut, maturity]) = with;
+        let due = valued(value, [haircut, maturity, 0]);
+        assert_eq!(outcome(LOAN, as_swap(item, 1)), due, "{item:?}");
+    };
+    let item = dollars(200_000);
+    lost(item, (110_400, [9_600, 0, 80_000]), (184_000, [16_000, 0]));
+    let without = (52_294, [9_600, 58_106, 80_000]);
+    lost(short(item), without, (87_157, [16_000, 96_843]));
+    let item = short(of(200_000));
+    lost(item, (56_842, [0, 63_158, 80_000]), (94_736, [0, 105_264]));
     // 600,000 less 8%, and not 60% of 1,050,000 less 8%.
-    assert_eq!(values(dollars(1_050_000)), [552_000, 966_000]);
-    assert_eq!(values(short(of(1_500_000))), [284_210, 710_526]);
+    let without = (552_000, [48_000, 0, 450_000]);
+    lost(dollars(1_050_000), without, (966_000, [84_000, 0]));
+    let without = (284_210, [0, 315_790, 900_000]);
+    lost(short(of(1_500_000)), without, (710_526, [0, 789_474]));
     // 20 becomes 12, 11, 5; in every other order of the three it would be 4. 128
     // becomes 76, 69, 32; in every other order 33.
-    assert_eq!(values(short(dollars(20))), [5, 8]);
-    assert_eq!(values(short(dollars(128))), [32, 55]);
+    lost(short(dollars(20)), (5, [1, 6, 8]), (8, [2, 10]));
+    lost(short(dollars(128)), (32, [7, 37, 52]), (55, [11, 62]));
 }
 
 /// Items of which some are left out, in other currencies, short, or large.
@@ -391,10 +400,21 @@ fn grounds() {
             let Cover { outcome, portion } = reported(&record).guarantees[0];
             match ground {
                 0 => assert_ne!(outcome.value(), 0, "{item:?}"),
-                ground => assert_eq!(outcome, LeftOut(Ground(ground)), "{item:?}"),
+                ground => assert_eq!(outcome, left_out(ground, item.amount), "{item:?}"),
             }
             assert_eq!(portion == 0, ground != 0);
         }
+    }
+}
+
+/// What a guarantee of the amount that the cut leaves reports, once the cut is counted.
+fn before_the_cut(outcome: Outcome, cut_loss: u64) -> Outcome {
+    match outcome {
+        Outcome::Valued(valuation) => Outcome::Valued(Valuation {
+            cut_loss,
+            ..valuation
+        }),
+        Outcome::LeftOut { ground, amount } => left_out(ground.0, amount + cut_loss),
     }
 }
 
@@ -414,14 +434,20 @@ fn reports_as_guarantees() {
                     ..(*item).into()
                 }
             });
+            let left = |place: usize, item: &Guarantee| match entry(place) {
+                1 => item.amount.min(amount) * 60 / 100,
+                _ => item.amount,
+            };
             let plain = items.iter().enumerate().map(|(place, item)| {
-                let cut = item.amount.min(amount) * 60 / 100;
-                let amount = if entry(place) == 1 { cut } else { item.amount };
+                let amount = left(place, item);
                 Guarantee { amount, ..*item }.into()
             });
-            let [mixed, plain] = [mixed.collect(), plain.collect()]
-                .map(|items: Vec<_>| report(&Record::new(terms, &[], &items)));
-            assert!(mixed.is_ok());
+            let [mixed, mut plain] = [mixed.collect(), plain.collect()]
+                .map(|items: Vec<_>| reported(&Record::new(terms, &[], &items)));
+            for (place, item) in items.iter().enumerate() {
+                let outcome = &mut plain.guarantees[place].outcome;
+                *outcome = before_the_cut(*outcome, item.amount - left(place, item));
+            }
             assert_eq!(mixed, plain);
         }
     }
@@ -449,7 +475,7 @@ fn cover_in_a_single_order() {
     let portions = report.guarantees.map(|cover| cover.portion);
     // At 0: 300 and 100; at 20: 300, and 300 that are left of 500.
     assert_eq!(portions[..5], [300, 300, 300, 100, 0]);
-    assert_eq!(report.guarantees[4].outcome, Valued(500));
+    assert_eq!(report.guarantees[4].outcome, whole(500));
     assert_eq!([report.rest, report.weighted_amount], [0, 120]);
 }
 

@@ -2,9 +2,9 @@
 //! and all else as under edition 2.
 
 use crate::lines::{collateral_line, guarantee_line, headed, terms_line};
-use crate::sample::{held, CASH, GUARANTEE, LOAN};
-use hadlephoga::Outcome::{LeftOut, Valued};
-use hadlephoga::{answer_book, report, Collateral, Ground, Guarantee, Record, Report, Terms};
+use crate::sample::{held, left_out, valued, whole, CASH, GUARANTEE, LOAN};
+use crate::sums;
+use hadlephoga::{answer_book, Collateral, Guarantee, Record, Report, Terms};
 
 /// A holding period of ten days, for which the tables stand.
 fn terms(edition: u64) -> Terms {
@@ -16,7 +16,7 @@ fn terms(edition: u64) -> Terms {
 }
 
 fn reported(terms: Terms, collateral: &[Collateral], guarantees: &[Guarantee]) -> Report {
-    report(&Record::new(terms, collateral, &held(guarantees))).expect("an accepted deal")
+    sums::reported(&Record::new(terms, collateral, &held(guarantees)))
 }
 
 fn pledge(goods: u64, step: u64, issue_life: u64) -> Collateral {
@@ -28,10 +28,12 @@ fn pledge(goods: u64, step: u64, issue_life: u64) -> Collateral {
     }
 }
 
-/// In thousandths: what a million of collateral loses.
+/// In thousandths: what a million of collateral loses, by its haircut alone.
 fn haircut(edition: u64, item: Collateral) -> u64 {
-    let value = reported(terms(edition), &[item], &[]).collateral[0].value();
-    (1_000_000 - value) / 1000
+    let outcome = reported(terms(edition), &[item], &[]).collateral[0];
+    let loss = 1_000_000 - outcome.value();
+    assert_eq!(outcome, valued(outcome.value(), [loss, 0, 0]));
+    loss / 1000
 }
 
 /// In thousandths: what lent goods raise, of an amount of which half is pledged.
@@ -149,7 +151,7 @@ fn ground_29_and_order() {
         let of = |edition| reported(party(edition, class, step), &[], &[item]);
         [1, 2, 3].map(|edition| of(edition).guarantees[0].outcome)
     };
-    let (valued, left_out) = (Valued(200_000), LeftOut(Ground(29)));
+    let (valued, left_out) = (whole(200_000), left_out(29, 200_000));
     let gone = [left_out, left_out, valued];
     assert_eq!(outcomes(3, 2, provider(2, 2)), gone);
     assert_eq!(outcomes(1, 4, provider(3, 3)), gone);

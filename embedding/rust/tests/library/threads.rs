@@ -2,8 +2,8 @@
 
 use std::thread;
 
-use crate::sample::{held, CASH, GUARANTEE, LOAN, SAMPLE, SAMPLE_RESULTS};
-use hadlephoga::{answer_book, report, Record, Terms};
+use crate::sample::{held, valued, CASH, GUARANTEE, LOAN, SAMPLE, SAMPLE_RESULTS};
+use hadlephoga::{answer_book, report, Collateral, Record, Terms};
 
 #[test]
 fn side_by_side() {
@@ -11,15 +11,22 @@ fn side_by_side() {
         for number in 0..8 {
             scope.spawn(move || {
                 let amount = 1_000_000 + number;
+                let cash = Collateral {
+                    currency: 840,
+                    residual_term: 900,
+                    ..CASH
+                };
                 let guarantees = held(&[GUARANTEE; 16]);
-                let record = Record::new(Terms { amount, ..LOAN }, &[CASH; 16], &guarantees);
-                let alone = report(&record);
+                let record = Record::new(Terms { amount, ..LOAN }, &[cash; 16], &guarantees);
+                let alone = report(&record).expect("an accepted deal");
+                let lost = valued(420_092, [113_138, 466_770, 0]);
+                assert_eq!(alone.collateral, [lost; 16]);
                 for _ in 0..500 {
                     let mut results = [number; 13];
                     assert_eq!(answer_book(SAMPLE, &mut results), Ok(3));
                     assert_eq!(results[..12], SAMPLE_RESULTS);
                     assert_eq!(results[12], number);
-                    assert_eq!(report(&record), alone);
+                    assert_eq!(report(&record).as_ref(), Ok(&alone));
                 }
             });
         }

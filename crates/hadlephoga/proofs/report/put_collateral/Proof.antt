@@ -7,13 +7,13 @@ use Rattle.base.proofs.Arrays.{unmapped}
 use Rattle.base.proofs.Tests.{tests}
 use Rattle.deal.specs.Lists.{listLimit}
 use Rattle.relief.specs.Report.{noCollateral}
-use Rattle.hadlephoga.specs.Reports.{collateralNumbers, collateralReportWidth}
+use Rattle.hadlephoga.specs.Reports.{collateralNumbers, outcomeWidth}
 use Rattle.hadlephoga.proofs.Numbers.{Put, put-none, put-next, put-all}
 use Rattle.hadlephoga.proofs.report.put_collateral.Statement.{statement}
 use Rattle.hadlephoga.proofs.report.put_collateral.Tie as tie
 
 abbrev Inv-loop : tie.InvT-loop
-Inv-loop list₀ at reports place₀ i₀ list place i = Put collateralNumbers collateralReportWidth reports list₀ at list place i
+Inv-loop list₀ at reports place₀ i₀ list place i = Put collateralNumbers outcomeWidth reports list₀ at list place i
 
 abbrev μ-loop : tie.MeasureT-loop
 μ-loop list₀ at reports place₀ i₀ list place i = listLimit - i

@@ -1,40 +1,33 @@
--- `hadlephoga::report::put_outcome` meets its contract: the value, and the ground behind it. Assumes nothing.
+-- `hadlephoga::report::put_outcome` meets its contract. Assumes nothing.
+use mathlib.Core.Path.{_≡_, sym, ap}
 use native.Mathlib.Omega.{arith}
+use lib.ListN.{length}
 use Rattle.base.proofs.Tests.{tests}
-use Rattle.base.proofs.Writing.{placed-joined}
+use Rattle.hadlephoga.specs.Reports.{outcomeWidth}
 use Rattle.hadlephoga.proofs.report.put_outcome.Statement.{statement}
 use Rattle.hadlephoga.proofs.report.put_outcome.Tie as tie
 
-value-requires : tie.Need-value-requires
-value-requires c κs = tt
+wide : (f : tie.After-outcome-numbers) → length (f .outcome-numbers .result) ≡ outcomeWidth
+wide f = ap length (f .outcome-numbers .ensures)
 
-put-number-requires : tie.Need-put-number-requires
-put-number-requires c κs = search tests
+outcome-numbers-requires : tie.Need-outcome-numbers-requires
+outcome-numbers-requires c κs = tt
 
-ground-number-requires : tie.Need-ground-number-requires
-ground-number-requires c κs = tt
+slice-aggregate-put-numbers : tie.Need-slice-aggregate-put-numbers
+slice-aggregate-put-numbers c = sym (wide (c .before .before))
 
-put-number-requires-2 : tie.Need-put-number-requires-2
-put-number-requires-2 c κs = search tests
+put-numbers-requires : tie.Need-put-numbers-requires
+put-numbers-requires c κs = let f = c .before .before in omega (arith, wide f, f .before .before .pre)
 
 same-length : tie.Need-same-length
 same-length c = search tests
 
 returns : tie.Need-returns
 returns c =
-    let g = c .before .before in
-    let n = g .before .before .before .before .before in
-    let s = n .before .before .before .before in
-    rw (← n .before .value .ensures, ← g .before .ground-number .ensures)
-    (placed-joined _ _ _ _ _ _ _ _ (omega (arith, s .pre)) (n .put-number .ensures) (g .put-number2 .ensures))
+    let f = c .before .before .before .before .before in
+    rw (f .outcome-numbers .ensures) at (c .before .before .put-numbers .ensures)
 
 pub put-outcome-spec : {M : Type 1} → statement M
 put-outcome-spec =
     tie.close
-    (tie.spec
-    value-requires
-    put-number-requires
-    ground-number-requires
-    put-number-requires-2
-    same-length
-    returns)
+    (tie.spec outcome-numbers-requires slice-aggregate-put-numbers put-numbers-requires same-length returns)

@@ -6,7 +6,7 @@ use lib.ListN.{length}
 use Rattle.base.proofs.Arrays.{unmapped}
 use Rattle.base.proofs.Tests.{tests}
 use Rattle.deal.specs.Lists.{listLimit}
-use Rattle.hadlephoga.specs.Reports.{collateralNumbers, guaranteeReportWidth, guaranteeReportsLength, guaranteeNumbers, collateralReportWidth, collateralReportsLength, reportNumbers}
+use Rattle.hadlephoga.specs.Reports.{collateralNumbers, guaranteeReportWidth, guaranteeReportsLength, guaranteeNumbers, outcomeWidth, collateralReportsLength, reportNumbers}
 use Rattle.hadlephoga.proofs.Numbers.{five-parts, length-in-order}
 use Rattle.hadlephoga.proofs.report.put_report.Statement.{statement}
 use Rattle.hadlephoga.proofs.report.put_report.Tie as tie
@@ -17,7 +17,7 @@ behind-collateral p =
     let n = p .before .before .before .before .before in
     let s = p .before .before .before .before .before .before .before .before in
     let long : length (s .args .report .collateral) ≡ listLimit = search (unmapped, s .good) in
-    let e = length-in-order collateralNumbers collateralReportWidth (λ x. refl) (s .args .report .collateral) in
+    let e = length-in-order collateralNumbers outcomeWidth (λ x. refl) (s .args .report .collateral) in
     (omega (arith, p .put-collateral .ensures .ends, n .put-number .ensures .ends, e, long), p .put-collateral .kept .0 ∙ n .put-number .kept .0)
 
 behind-guarantees : (g : tie.After-put-guarantees) → (g .put-guarantees .result ≡ 1 + collateralReportsLength + guaranteeReportsLength) × (length (g .put-guarantees .last .0) ≡ length (g .before .before .before .before .before .before .before .before .before .before .before .before .before .args .list .now))

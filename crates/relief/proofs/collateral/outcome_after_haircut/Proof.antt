@@ -14,7 +14,7 @@ use Rattle.deal.specs.declared.terms.Terms.{Terms}
 use Rattle.deal.specs.declared.collateral.Collateral.{Collateral}
 use Rattle.relief.specs.Grounds.{groundWith}
 use Rattle.relief.specs.Outcomes.{outcomeFor}
-use Rattle.relief.specs.Collateral.{collateralValue, collateralGrounds, collateralGround, collateralOutcome}
+use Rattle.relief.specs.Collateral.{collateralValuation, collateralGrounds, collateralGround, collateralOutcome}
 use Rattle.relief.proofs.collateral.outcome_after_haircut.Statement.{statement}
 use Rattle.relief.proofs.collateral.outcome_after_haircut.Tie as tie
 
@@ -23,9 +23,9 @@ abbrev Past : Terms → Collateral → ℕ → Type 0
 Past t x n = collateralGround (tableFor t) t x ≡ firstMet (drop n (collateralGrounds (tableFor t) t x))
 
 -- the outcome by its ground's number
-decided : (t : Terms) (x : Collateral) {n : ℕ} → collateralGround (tableFor t) t x ≡ n → outcomeFor n (collateralValue (tableFor t) t x) ≡ collateralOutcome (tableFor t) t x
+decided : (t : Terms) (x : Collateral) {n : ℕ} → collateralGround (tableFor t) t x ≡ n → outcomeFor n (x .amount) (collateralValuation (tableFor t) t x) ≡ collateralOutcome (tableFor t) t x
 unfolding collateralOutcome
-decided t x e = ap (λ n. outcomeFor n (collateralValue (tableFor t) t x)) (sym e)
+decided t x e = ap (λ n. outcomeFor n (x .amount) (collateralValuation (tableFor t) t x)) (sym e)
 
 eligible-requires : tie.Need-eligible-requires
 eligible-requires c κs = tt
@@ -36,8 +36,8 @@ short-original-requires c κs = tt
 short-residual-requires : tie.Need-short-residual-requires
 short-residual-requires c κs = tt
 
-recognised-requires : tie.Need-recognised-requires
-recognised-requires c κs = search tests
+of-requires : tie.Need-of-requires
+of-requires c κs = search tests
 
 returns : tie.Need-returns
 unfolding collateralGround collateralGrounds outcomeFor groundWith if_then_else_
@@ -88,10 +88,10 @@ unfolding collateralGrounds
 past-6 c = past-5 (c .before .before) ∙ not-met _ _ _ (told-false _ _ (c .before .short-residual .ensures) (c .if6 .left))
 
 returns-7 : tie.Need-returns-7
-unfolding collateralGround collateralGrounds collateralValue firstOr outcomeFor groundWith if_then_else_
+unfolding collateralGround collateralGrounds collateralValuation firstOr outcomeFor groundWith if_then_else_
 returns-7 c =
     let s = c .before .before .before .before .before .before .before .before .before .before .before .before .before .before in
-    rw (c .recognised .ensures, s .pre .1) (decided _ _ (past-6 (c .before)))
+    rw (c .of .ensures, s .pre .1) (decided _ _ (past-6 (c .before)))
 
 pub outcome-after-haircut-spec : {M : Type 1} → statement M
 outcome-after-haircut-spec =
@@ -106,5 +106,5 @@ outcome-after-haircut-spec =
     returns-5
     short-residual-requires
     returns-6
-    recognised-requires
+    of-requires
     returns-7)

@@ -68,19 +68,19 @@ mul-reports c = omega arith
 array-set-from-reports : tie.Need-array-set-from-reports Inv-loop μ-loop
 array-set-from-reports c = omega arith
 
-value-requires : tie.Need-value-requires Inv-loop μ-loop
-value-requires c κs = tt
+valuation-requires : tie.Need-valuation-requires Inv-loop μ-loop
+valuation-requires c κs = tt
 
 -- the item just valued is worth at most the limit of an amount
-worth : (c : tie.After-value Inv-loop μ-loop) → c .value .result ≤ 1000000000000
+worth : (c : tie.After-valuation Inv-loop μ-loop) → c .valuation .result .value ≤ 1000000000000
 worth c =
     let l = c .before .before .before .before in
     let s = l .before .before in
     let item = collateral-at (s .args .list) (s .pre .0) (l .loop .i) zeroCollateral (c .before .before .before .loop-test .taken) (omega (arith, long s)) in
-    rw (c .value .ensures, c .before .collateral-outcome .ensures) (le-trans (collateral-le (tableFor (s .args .terms)) (s .args .terms) _) (item .amount))
+    rw (c .valuation .ensures, c .before .collateral-outcome .ensures) (le-trans (collateral-le (tableFor (s .args .terms)) (s .args .terms) _) (item .amount))
 
 add-total : tie.Need-add-total Inv-loop μ-loop
-add-total c = omega (arith, worth c, c .before .before .before .before .loop .inv .small)
+add-total c = let v = c .before in omega (arith, worth v, v .before .before .before .before .loop .inv .small)
 
 add-i : tie.Need-add-i Inv-loop μ-loop
 add-i c = omega arith
@@ -91,7 +91,8 @@ loop-less c = omega arith
 loop-again : tie.Need-loop-again Inv-loop μ-loop
 unfolding collateralTotal
 loop-again c =
-    let v = c .before in
+    let w = c .before in
+    let v = w .before in
     let l = v .before .before .before in
     let s = l .before .before in
     let items = s .args .list .items in
@@ -99,8 +100,8 @@ loop-again c =
     let h : i < length items = omega (arith, long s) in
     record {
       reported = rw (l .loop .inv .reported, v .collateral-outcome .ensures) (fill-more (entry (s .args .terms)) zeroCollateral i items _ h (omega arith));
-      totalled = rw (c .value .ensures, v .collateral-outcome .ensures, l .loop .inv .totalled) (sym (sum-take (λ x. outcomeValue (collateralOutcome (tableFor (s .args .terms)) (s .args .terms) x)) items i zeroCollateral h));
-      small = omega (arith, worth c, l .loop .inv .small);
+      totalled = rw (w .valuation .ensures, v .collateral-outcome .ensures, l .loop .inv .totalled) (sym (sum-take (λ x. outcomeValue (collateralOutcome (tableFor (s .args .terms)) (s .args .terms) x)) items i zeroCollateral h));
+      small = omega (arith, worth w, l .loop .inv .small);
       passed = omega arith;
       held = l .loop .inv .held;
     }
@@ -128,7 +129,7 @@ value-collateral-spec =
     collateral-outcome-requires
     mul-reports
     array-set-from-reports
-    value-requires
+    valuation-requires
     add-total
     add-i
     loop-less

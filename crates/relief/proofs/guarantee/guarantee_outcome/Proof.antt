@@ -26,14 +26,14 @@ outcome-after-haircut-requires c κs =
     let s = w .before .before in
     ((plain s .amount, rw (c .scaled-currency-haircut .ensures, s .pre .1 .0)), (weighs w, s .pre .0 .1))
 
-value-requires : tie.Need-value-requires
-value-requires c κs = tt
+valuation-requires : tie.Need-valuation-requires
+valuation-requires c κs = tt
 
 returns : tie.Need-returns
 returns c =
     let o = c .before in
     let w = o .before .before in
-    (o .outcome-after-haircut .ensures, rw (c .value .ensures, o .outcome-after-haircut .ensures, weighs w))
+    (o .outcome-after-haircut .ensures, rw (c .valuation .ensures, o .outcome-after-haircut .ensures, weighs w))
 
 pub guarantee-outcome-spec : {M : Type 1} → statement M
 guarantee-outcome-spec =
@@ -42,5 +42,5 @@ guarantee-outcome-spec =
     provider-weight-under-requires
     scaled-currency-haircut-requires
     outcome-after-haircut-requires
-    value-requires
+    valuation-requires
     returns)

@@ -14,7 +14,7 @@ use Rattle.deal.specs.declared.guarantee.Guarantee.{Guarantee}
 use Rattle.relief.specs.Grounds.{groundWith}
 use Rattle.relief.specs.Outcomes.{outcomeFor}
 use Rattle.relief.specs.Weights.{counterpartyWeightOf, providerWeightOf}
-use Rattle.relief.specs.Guarantees.{guaranteeValue, guaranteeGrounds, guaranteeGround, guaranteeOutcome}
+use Rattle.relief.specs.Guarantees.{guaranteeValuation, guaranteeGrounds, guaranteeGround, guaranteeOutcome}
 use Rattle.relief.proofs.Hedged.{hedged-le}
 use Rattle.relief.proofs.guarantee.outcome_after_haircut.Statement.{statement}
 use Rattle.relief.proofs.guarantee.outcome_after_haircut.Tie as tie
@@ -24,9 +24,9 @@ abbrev Past : Terms → Guarantee → ℕ → Type 0
 Past t x n = guaranteeGround (tableFor t) t x ≡ firstMet (drop n (guaranteeGrounds (tableFor t) t x))
 
 -- the outcome by its ground's number
-decided : (t : Terms) (x : Guarantee) {n : ℕ} → guaranteeGround (tableFor t) t x ≡ n → outcomeFor n (guaranteeValue t x) ≡ guaranteeOutcome (tableFor t) t x
+decided : (t : Terms) (x : Guarantee) {n : ℕ} → guaranteeGround (tableFor t) t x ≡ n → outcomeFor n (x .amount) (guaranteeValuation t x) ≡ guaranteeOutcome (tableFor t) t x
 unfolding guaranteeOutcome
-decided t x e = ap (λ n. outcomeFor n (guaranteeValue t x)) (sym e)
+decided t x e = ap (λ n. outcomeFor n (x .amount) (guaranteeValuation t x)) (sym e)
 
 unrated-entity-requires : tie.Need-unrated-entity-requires
 unrated-entity-requires c κs = tt
@@ -40,8 +40,8 @@ short-residual-requires c κs = tt
 hedged-amount-requires : tie.Need-hedged-amount-requires
 hedged-amount-requires c κs = search tests
 
-recognised-requires : tie.Need-recognised-requires
-recognised-requires c κs =
+of-requires : tie.Need-of-requires
+of-requires c κs =
     let s = c .before .before .before .before .before .before .before .before .before .before .before .before .before .before in
     omega (arith, c .hedged-amount .ensures, hedged-le (s .args .terms) (s .args .item), s .pre .0 .0)
 
@@ -109,11 +109,11 @@ past-7 c =
     past-6 (c .before) ∙ not-met _ _ _ (lt-leb _ _ h)
 
 returns-8 : tie.Need-returns-8
-unfolding guaranteeGround guaranteeGrounds guaranteeValue firstOr outcomeFor groundWith if_then_else_
+unfolding guaranteeGround guaranteeGrounds guaranteeValuation firstOr outcomeFor groundWith if_then_else_
 returns-8 c =
     let h = c .before in
     let s = h .before .before .before .before .before .before .before .before .before .before .before .before .before .before in
-    rw (c .recognised .ensures, h .hedged-amount .ensures, s .pre .0 .1) (decided _ _ (past-7 (h .before)))
+    rw (c .of .ensures, h .hedged-amount .ensures, s .pre .0 .1) (decided _ _ (past-7 (h .before)))
 
 pub outcome-after-haircut-spec : {M : Type 1} → statement M
 outcome-after-haircut-spec =
@@ -130,5 +130,5 @@ outcome-after-haircut-spec =
     returns-6
     returns-7
     hedged-amount-requires
-    recognised-requires
+    of-requires
     returns-8)
