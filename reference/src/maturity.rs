@@ -35,7 +35,7 @@ mod tests {
     use super::*;
 
     fn left(residual: u64, original: u64, deal_term: u64) -> Result<u64, u8> {
-        maturity_share(residual, original, deal_term).map(|share| share.of(1_000_000))
+        maturity_share(residual, original, deal_term).map(|share| share.split(1_000_000).left)
     }
 
     #[test]

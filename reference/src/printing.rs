@@ -4,8 +4,9 @@
 use std::fmt::{self, Display, Formatter};
 
 use crate::answer::{answer_book, deals, DealRead, NUMBERS_A_DEAL};
+use crate::outcome::{Outcome, Valuation};
 use crate::record::{Cover, Record};
-use crate::reporting::{evaluated, Outcome};
+use crate::reporting::evaluated;
 
 /// Deals that the results list of `crmbook` has room for.
 const MOST_DEALS: usize = 2_048;
@@ -52,7 +53,7 @@ struct Reports<'a>(&'a [DealRead]);
 
 impl Display for Reports<'_> {
     fn fmt(&self, out: &mut Formatter) -> fmt::Result {
-        writeln!(out, "REPORT\t1")?;
+        writeln!(out, "REPORT\t2")?;
         for (serial, deal) in (1..).zip(self.0) {
             match deal {
                 DealRead::Accepted(record) => write_report(out, serial, record)?,
@@ -91,8 +92,20 @@ fn word_for(item: &Cover) -> &'static str {
 impl Display for Outcome {
     fn fmt(&self, out: &mut Formatter) -> fmt::Result {
         match self {
-            Outcome::Valued(value) => write!(out, "VALUE\t{value}"),
-            Outcome::LeftOut(ground) => write!(out, "GROUND\t{ground}"),
+            Outcome::Valued(valuation) => write!(out, "VALUE\t{valuation}"),
+            Outcome::LeftOut { ground, amount } => write!(out, "GROUND\t{ground}\t{amount}"),
         }
+    }
+}
+
+impl Display for Valuation {
+    fn fmt(&self, out: &mut Formatter) -> fmt::Result {
+        let Valuation {
+            value,
+            haircut_loss,
+            maturity_loss,
+            cut_loss,
+        } = self;
+        write!(out, "{value}\t{haircut_loss}\t{maturity_loss}\t{cut_loss}")
     }
 }

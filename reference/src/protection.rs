@@ -1,17 +1,27 @@
-//! Value of an item of protection, or the ground for leaving it out
+//! Value and losses of an item of protection, or the ground for leaving it out
 //! (01: From items to the weighted amount, 1 and 2; Grounds for leaving an item
-//! out; 02: L1). The grounds are tested in the paper's order and the first one
-//! ends it.
+//! out; 02: L1, L2). The grounds are tested in the paper's order and the first
+//! one ends it.
 
 use crate::maturity::maturity_share;
+use crate::outcome::{Outcome, Valuation};
 use crate::record::{Collateral, Cover, Guarantee, Terms};
 use crate::scaling::{deal_days, guarantee_days, scaled};
-use crate::share::Share;
+use crate::share::{Share, Split};
 use crate::weights::{counterparty_weight, provider_weight};
 use crate::{edition, ground, tables};
 
-/// Value of an item of collateral of an accepted deal.
-pub fn collateral_value(terms: &Terms, item: &Collateral) -> Result<u64, u8> {
+/// Outcome of an item of collateral of an accepted deal.
+pub fn collateral_outcome(terms: &Terms, item: &Collateral) -> Outcome {
+    Outcome::of(item.amount, valued_collateral(terms, item))
+}
+
+/// Outcome of a guarantee or swap of an accepted deal.
+pub fn cover_outcome(terms: &Terms, item: &Cover) -> Outcome {
+    Outcome::of(item.guarantee().amount, valued_cover(terms, item))
+}
+
+fn valued_collateral(terms: &Terms, item: &Collateral) -> Result<Valuation, u8> {
     ensure(item.lawful == 1, ground::NOT_LAWFUL)?;
     ensure(item.unrelated == 1, ground::RELATED)?;
     ensure(item.unreflected == 1, ground::IN_RATING)?;
@@ -22,28 +32,36 @@ pub fn collateral_value(terms: &Terms, item: &Collateral) -> Result<u64, u8> {
 
     let days = deal_days(terms.kind, terms.interval);
     let haircuts = scaled(haircut, days) + currency_haircut(terms, item.currency, days);
-    Ok(surviving.of(Share::left_by(haircuts).of(item.amount)))
+    let uncut = Share::ALL.split(item.amount);
+    Ok(Valuation::of(uncut, Share::left_by(haircuts), surviving))
 }
 
-/// Value of a guarantee or swap of an accepted deal. A swap's own cut is rounded
-/// before the currency and the maturity take their parts.
-pub fn cover_value(terms: &Terms, item: &Cover) -> Result<u64, u8> {
+/// A swap's own cut is rounded before the currency and the maturity take their
+/// parts.
+fn valued_cover(terms: &Terms, item: &Cover) -> Result<Valuation, u8> {
     let sent = item.guarantee();
     let surviving = recognised(terms, sent)?;
     let haircut = currency_haircut(terms, sent.currency, guarantee_days(terms.interval));
-    Ok(surviving.of(Share::left_by(haircut).of(hedged(terms, item))))
+    let haircut = Share::left_by(haircut);
+    Ok(Valuation::of(cut(terms, item), haircut, surviving))
 }
 
-/// The amount that counts before currency and maturity. Where restructuring is
-/// no credit event that is a part of the hedge, and of the deal's amount at most
-/// (CRE22.87); else the whole, above the deal's amount too.
-fn hedged(terms: &Terms, item: &Cover) -> u64 {
+/// The amount that counts before currency and maturity, and what it lacks of the
+/// sent one. Where restructuring is no credit event, only a part of the hedge
+/// counts, and of the deal's amount at most (CRE22.87); else the whole, above the
+/// deal's amount too.
+fn cut(terms: &Terms, item: &Cover) -> Split {
     let amount = item.guarantee().amount;
     match item {
         Cover::Swap(swap) if swap.restructuring == 0 => {
-            Share::SIXTY_PERCENT.of(amount.min(terms.amount))
+            let above = amount.saturating_sub(terms.amount);
+            let cut = Share::SIXTY_PERCENT.split(amount.min(terms.amount));
+            Split {
+                taken: above + cut.taken,
+                ..cut
+            }
         }
-        _ => amount,
+        _ => Share::ALL.split(amount),
     }
 }
 

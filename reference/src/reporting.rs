@@ -1,33 +1,18 @@
 //! Reporting a deal (01: From items to the weighted amount; Reporting a deal;
-//! 02: L1).
+//! 02: L1, L2).
 
 use crate::acceptance::is_accepted;
-use crate::protection::{collateral_value, cover_value};
+use crate::outcome::Outcome;
+use crate::protection::{collateral_outcome, cover_outcome};
 use crate::record::{Record, Terms, LIST_LIMIT};
 use crate::scaling::{deal_days, scaled};
 use crate::share::raised;
 use crate::weights::{counterparty_weight, provider_weight};
 use crate::{edition, refusal};
 
-/// What an item counts for: its value, or the ground for leaving it out.
-#[derive(Clone, Copy, Debug, PartialEq, Eq)]
-pub enum Outcome {
-    Valued(u64),
-    LeftOut(u8),
-}
-
-impl From<Result<u64, u8>> for Outcome {
-    fn from(result: Result<u64, u8>) -> Self {
-        match result {
-            Ok(value) => Outcome::Valued(value),
-            Err(ground) => Outcome::LeftOut(ground),
-        }
-    }
-}
-
 /// The report of a deal. Items stand in order of adding; places past a count
-/// hold value 0 and portion 0.
-#[derive(Clone, Debug, PartialEq, Eq)]
+/// hold a value, losses and a portion of 0.
+#[derive(Clone, Debug, Default, PartialEq, Eq)]
 pub struct Report {
     /// 0, or 40 with zeros in all the rest.
     pub refusal: u64,
@@ -42,17 +27,6 @@ pub struct Report {
     pub weighted: u64,
 }
 
-impl Report {
-    const ZERO: Report = Report {
-        refusal: 0,
-        exposure: 0,
-        collateral: [Outcome::Valued(0); LIST_LIMIT],
-        guarantees: [(Outcome::Valued(0), 0); LIST_LIMIT],
-        rest: 0,
-        weighted: 0,
-    };
-}
-
 /// Reports any record: the figures of an accepted deal, or refusal 40.
 pub fn report(record: &Record) -> Report {
     if is_accepted(record) {
@@ -60,45 +34,40 @@ pub fn report(record: &Record) -> Report {
     } else {
         Report {
             refusal: refusal::RECORD,
-            ..Report::ZERO
+            ..Report::default()
         }
     }
 }
 
 /// The report of a record that is known to be accepted.
 pub(crate) fn evaluated(record: &Record) -> Report {
-    let mut report = Report::ZERO;
-    let collateral_total = value_collateral(record, &mut report);
-    report.exposure = exposure_after(&record.terms, collateral_total);
+    let mut report = Report::default();
+    value_collateral(record, &mut report);
+    report.exposure = exposure_after(&record.terms, &report.collateral);
     value_guarantees(record, &mut report);
     cover(record, &mut report);
     report
 }
 
-/// Fills in each item's outcome and gives the sum of the values, which stays
-/// within sixteen times the amount limit.
-fn value_collateral(record: &Record, report: &mut Report) -> u64 {
-    let mut total = 0;
+fn value_collateral(record: &Record, report: &mut Report) {
     for (item, place) in record
         .counted_collateral()
         .iter()
         .zip(&mut report.collateral)
     {
-        let value = collateral_value(&record.terms, item);
-        total += value.unwrap_or(0);
-        *place = value.into();
+        *place = collateral_outcome(&record.terms, item);
     }
-    total
 }
 
 /// E*: the raised exposure less all collateral, not below 0 and never above the
-/// deal's amount (CRE22.4 decides over CRE22.40).
-fn exposure_after(terms: &Terms, collateral_total: u64) -> u64 {
+/// deal's amount (CRE22.4 decides over CRE22.40). The sum of the values stays
+/// within sixteen times the amount limit.
+fn exposure_after(terms: &Terms, collateral: &[Outcome]) -> u64 {
     let tables = edition::tables(terms.edition);
     let haircut = tables.lent_haircut(terms.lent_goods, terms.lent_step, terms.lent_life);
     let days = deal_days(terms.kind, terms.interval);
     raised(terms.amount, scaled(haircut, days))
-        .saturating_sub(collateral_total)
+        .saturating_sub(collateral.iter().map(Outcome::value).sum())
         .min(terms.amount)
 }
 
@@ -108,7 +77,7 @@ fn value_guarantees(record: &Record, report: &mut Report) {
         .iter()
         .zip(&mut report.guarantees)
     {
-        place.0 = cover_value(&record.terms, item).into();
+        place.0 = cover_outcome(&record.terms, item);
     }
 }
 
@@ -120,11 +89,10 @@ fn cover(record: &Record, report: &mut Report) {
     let mut hundredfold = 0;
     let mut ranking = [(0, 0); LIST_LIMIT];
     for &(weight, place) in ranked(record, report, &mut ranking) {
-        if let (Outcome::Valued(value), portion) = &mut report.guarantees[place] {
-            *portion = rest.min(*value);
-            rest -= *portion;
-            hundredfold += u128::from(*portion) * u128::from(weight);
-        }
+        let (outcome, portion) = &mut report.guarantees[place];
+        *portion = rest.min(outcome.value());
+        rest -= *portion;
+        hundredfold += u128::from(*portion) * u128::from(weight);
     }
     hundredfold += u128::from(rest) * u128::from(counterparty_weight(&record.terms));
     report.rest = rest;

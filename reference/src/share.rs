@@ -1,4 +1,5 @@
-//! Shares of an amount (01: From items to the weighted amount, 1 to 3; 02: L1).
+//! Shares of an amount (01: From items to the weighted amount, 1 to 3; 02: L1,
+//! L2).
 
 /// The whole in millionths, the unit of the haircuts.
 const WHOLE: u64 = 1_000_000;
@@ -32,11 +33,25 @@ impl Share {
         Share::new(WHOLE.saturating_sub(haircuts), WHOLE)
     }
 
-    /// The share of `amount`, rounded down.
-    pub fn of(self, amount: u64) -> u64 {
-        let share = u128::from(amount) * u128::from(self.part) / u128::from(self.whole);
-        narrowed(share)
+    /// Leaves the share of `amount`, rounded down, and takes what the share lacks
+    /// of the whole, rounded up.
+    pub fn split(self, amount: u64) -> Split {
+        let (amount, whole) = (u128::from(amount), u128::from(self.whole));
+        let left = amount * u128::from(self.part) / whole;
+        let taken = (amount * u128::from(self.whole - self.part)).div_ceil(whole);
+        Split {
+            left: narrowed(left),
+            taken: narrowed(taken),
+        }
     }
+}
+
+/// What a step leaves of an amount and what it takes, each worked out by itself;
+/// together they are the amount.
+#[derive(Clone, Copy, Debug, PartialEq, Eq)]
+pub struct Split {
+    pub left: u64,
+    pub taken: u64,
 }
 
 /// `amount` raised by a haircut, rounded up.
@@ -55,20 +70,40 @@ fn narrowed(number: u128) -> u64 {
 mod tests {
     use super::*;
 
-    #[test]
-    fn haircuts_that_reach_the_whole_leave_nothing() {
-        assert_eq!(Share::left_by(999_999).of(1_000_000), 1);
-        assert_eq!(Share::left_by(1_000_000).of(1_000_000), 0);
-        assert_eq!(Share::left_by(u64::MAX).of(u64::MAX), 0);
-        assert_eq!(Share::left_by(0).of(u64::MAX), u64::MAX);
+    fn parts(share: Share, amount: u64) -> [u64; 2] {
+        let Split { left, taken } = share.split(amount);
+        [left, taken]
     }
 
     #[test]
-    fn shares_round_down_and_raising_rounds_up() {
-        assert_eq!(Share::new(2, 3).of(2), 1);
-        assert_eq!(Share::new(3, 3).of(7), 7);
-        let sixty_percent = [0, 1, 2, 3, 4, 5].map(|n| Share::SIXTY_PERCENT.of(n));
-        assert_eq!(sixty_percent, [0, 0, 1, 1, 2, 3]);
+    fn what_is_left_and_what_is_taken_make_up_the_amount() {
+        let large = [999_999, 1_000_000_000_000, u64::MAX - 1, u64::MAX];
+        for (part, whole) in (1..=40).flat_map(|whole| (0..=whole).map(move |part| (part, whole))) {
+            let share = Share::new(part, whole);
+            for amount in (0..=100).chain(large) {
+                let [left, taken] = parts(share, amount);
+                assert_eq!(left.checked_add(taken), Some(amount), "{share:?} {amount}");
+            }
+        }
+    }
+
+    #[test]
+    fn haircuts_that_reach_the_whole_leave_nothing() {
+        assert_eq!(parts(Share::left_by(999_999), 1_000_000), [1, 999_999]);
+        assert_eq!(parts(Share::left_by(1_000_000), 1_000_000), [0, 1_000_000]);
+        assert_eq!(parts(Share::left_by(u64::MAX), u64::MAX), [0, u64::MAX]);
+        assert_eq!(parts(Share::left_by(0), u64::MAX), [u64::MAX, 0]);
+    }
+
+    #[test]
+    fn what_is_left_rounds_down_and_all_else_up() {
+        assert_eq!(parts(Share::new(2, 3), 2), [1, 1]);
+        assert_eq!(parts(Share::new(3, 3), 7), [7, 0]);
+        let sixty_percent = [0, 1, 2, 3, 4, 5].map(|n| parts(Share::SIXTY_PERCENT, n));
+        assert_eq!(
+            sixty_percent,
+            [[0, 0], [0, 1], [1, 1], [1, 2], [2, 2], [3, 2]]
+        );
         assert_eq!(raised(100, 250_000), 125);
         assert_eq!(raised(1, 1), 2);
         assert_eq!(raised(1, 0), 1);
@@ -77,7 +112,7 @@ mod tests {
 
     #[test]
     fn malformed_shares_are_harmless() {
-        assert_eq!(Share::new(5, 0).of(9), 9);
-        assert_eq!(Share::new(5, 4).of(9), 9);
+        assert_eq!(parts(Share::new(5, 0), 9), [9, 0]);
+        assert_eq!(parts(Share::new(5, 4), 9), [9, 0]);
     }
 }

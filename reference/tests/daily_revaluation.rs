@@ -5,9 +5,8 @@
 mod common;
 
 use common::*;
-use reference::{report, Collateral, Guarantee, Outcome, Report, Terms, AMOUNT_LIMIT};
+use reference::{report, Collateral, Guarantee, Outcome, Report, Terms, Valuation, AMOUNT_LIMIT};
 use std::collections::BTreeSet;
-use Outcome::{LeftOut, Valued};
 
 /// Kind and interval of a deal, and its n.
 type Period = [u64; 3];
@@ -134,13 +133,13 @@ fn lending(goods: Goods, edition: u64, [kind, interval, _]: Period) -> Terms {
 /// The report of a deal with these outcomes of its collateral, with E* in
 /// millionths of the amount and no guarantee.
 fn uncovered(outcomes: &[Outcome], exposure: u64) -> Report {
-    let mut collateral = [Valued(0); 16];
+    let mut collateral = [Outcome::default(); 16];
     collateral[..outcomes.len()].copy_from_slice(outcomes);
     Report {
         refusal: 0,
         exposure: exposure * MILLIONTH,
         collateral,
-        guarantees: [(Valued(0), 0); 16],
+        guarantees: [(Outcome::default(), 0); 16],
         rest: exposure * MILLIONTH,
         weighted: exposure * MILLIONTH,
     }
@@ -155,7 +154,11 @@ fn assert_report(terms: Terms, items: &[Collateral], expected: &Report) {
 }
 
 fn left_by(haircuts: u64) -> Outcome {
-    Valued(AMOUNT_LIMIT - haircuts * MILLIONTH)
+    Outcome::Valued(Valuation {
+        value: AMOUNT_LIMIT - haircuts * MILLIONTH,
+        haircut_loss: haircuts * MILLIONTH,
+        ..Valuation::default()
+    })
 }
 
 const IN_CASH: Goods = [1, 0, 0, 0];
@@ -199,7 +202,7 @@ fn goods_not_eligible_have_a_haircut_only_where_lent() {
             let terms = lending(goods, edition, period);
             let raised = figure(lent_haircut(goods, edition), period[2]);
             let items = [pledged(goods, AMOUNT_LIMIT), cash];
-            let outcomes = [LeftOut(24), left_by(0)];
+            let outcomes = [left_out(24, AMOUNT_LIMIT), left_by(0)];
             assert_report(terms, &items, &uncovered(&outcomes, raised));
         }
     }

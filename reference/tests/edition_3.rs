@@ -8,7 +8,6 @@ use reference::{
     answer_book, deals, open, printed, printed_reports, report, Collateral, DealRead, Guarantee,
     Outcome, Record, Terms,
 };
-use Outcome::Valued;
 
 const ROUNDS: u64 = 20_000;
 
@@ -41,27 +40,27 @@ fn reports_of_a_book_headed_3() {
     // Deal 2, at 75: raised to 1,300,000; 20, 30, 24, 15 and 2 percent.
     // Deal 3, at 150: 880,000 × 810 / 1,710; 500,000 × 100 + 83,158 × 150.
     let reports = "\
-REPORT 1
+REPORT 2
 1 EXPOSURE 751000
-1 COLLATERAL 1 VALUE 97000
-1 COLLATERAL 2 VALUE 80000
-1 COLLATERAL 3 VALUE 72000
-1 GUARANTEE 1 VALUE 200000 200000
-1 GUARANTEE 2 VALUE 184000 184000
-1 GUARANTEE 3 GROUND 29 0
+1 COLLATERAL 1 VALUE 97000 3000 0 0
+1 COLLATERAL 2 VALUE 80000 20000 0 0
+1 COLLATERAL 3 VALUE 72000 28000 0 0
+1 GUARANTEE 1 VALUE 200000 0 0 0 200000
+1 GUARANTEE 2 VALUE 184000 16000 0 0 184000
+1 GUARANTEE 3 GROUND 29 200000 0
 1 REST 367000
 1 WEIGHTED 748500
 2 EXPOSURE 501000
-2 COLLATERAL 1 VALUE 400000
-2 COLLATERAL 2 VALUE 140000
-2 COLLATERAL 3 VALUE 76000
-2 COLLATERAL 4 VALUE 85000
-2 COLLATERAL 5 VALUE 98000
+2 COLLATERAL 1 VALUE 400000 100000 0 0
+2 COLLATERAL 2 VALUE 140000 60000 0 0
+2 COLLATERAL 3 VALUE 76000 24000 0 0
+2 COLLATERAL 4 VALUE 85000 15000 0 0
+2 COLLATERAL 5 VALUE 98000 2000 0 0
 2 REST 501000
 2 WEIGHTED 375750
 3 EXPOSURE 583158
-3 COLLATERAL 1 VALUE 416842
-3 GUARANTEE 1 VALUE 500000 500000
+3 COLLATERAL 1 VALUE 416842 120000 463158 0
+3 GUARANTEE 1 VALUE 500000 0 0 0 500000
 3 REST 83158
 3 WEIGHTED 624737
 4 REFUSED 11 18
@@ -261,8 +260,8 @@ fn edition_3_is_accepted_and_edition_4_refused() {
         assert_eq!(refusals(&record), [40; 4], "{edition}");
         let reply = report(&record);
         assert_eq!([reply.exposure, reply.rest, reply.weighted], [0; 3]);
-        assert_eq!(reply.collateral, [Valued(0); 16]);
-        assert_eq!(reply.guarantees, [(Valued(0), 0); 16]);
+        assert_eq!(reply.collateral, [Outcome::default(); 16]);
+        assert_eq!(reply.guarantees, [(Outcome::default(), 0); 16]);
     }
 }
 
@@ -356,12 +355,7 @@ const RECORDED_REPORTS: &str = include_str!("recorded/before_l9.reports");
 
 #[test]
 fn answers_recorded_before_are_kept() {
-    let printed = printed_reports(RECORDED_BOOK.as_bytes());
-    let printed = String::from_utf8(printed).expect("plain text");
-    for (now, before) in printed.lines().zip(RECORDED_REPORTS.lines()) {
-        assert_eq!(now, before);
-    }
-    assert_eq!(printed.len(), RECORDED_REPORTS.len());
+    assert_recorded(RECORDED_BOOK, RECORDED_REPORTS);
 }
 
 #[test]

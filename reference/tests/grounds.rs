@@ -3,8 +3,8 @@
 mod common;
 
 use common::*;
-use reference::{report, Collateral, Guarantee, Outcome, Terms};
-use Outcome::{LeftOut, Valued};
+use reference::{report, Collateral, Guarantee, Terms};
+use Bare::{LeftOut, Valued};
 
 #[test]
 fn grounds_of_collateral_in_order() {
@@ -149,17 +149,17 @@ fn equal_weights_cover_in_order_of_adding() {
         ..GUARANTEE
     };
     // Weights 50, 50, 50 (steps 3, 0, 2), then a left-out one, then weight 20.
-    let left_out = Guarantee {
+    let lawless = Guarantee {
         lawful: 0,
         ..GUARANTEE
     };
-    let items = [bank(30, 3), bank(30, 0), bank(30, 2), left_out, bank(30, 1)];
+    let items = [bank(30, 3), bank(30, 0), bank(30, 2), lawless, bank(30, 1)];
     let report = report(&deal(terms, &[], &items));
     let portions = report.guarantees.map(|(_, portion)| portion);
     assert_eq!(portions[..5], [30, 30, 10, 0, 30]);
     assert_eq!(portions[5..], [0; 11]);
-    assert_eq!(report.guarantees[2].0, Valued(30));
-    assert_eq!(report.guarantees[3].0, LeftOut(21));
+    assert_eq!(report.guarantees[2].0, whole(30));
+    assert_eq!(report.guarantees[3].0, left_out(21, 1_000));
     assert_eq!(report.rest, 0);
     assert_eq!(report.weighted, 35 + 6);
 }
@@ -172,7 +172,7 @@ fn a_guarantee_keeps_its_value_where_nothing_is_left_to_cover() {
     };
     let report = report(&deal(TERMS, &[cash], &[GUARANTEE]));
     assert_eq!(report.exposure, 0);
-    assert_eq!(report.guarantees[0], (Valued(1_000), 0));
+    assert_eq!(report.guarantees[0], (whole(1_000), 0));
     assert_eq!([report.rest, report.weighted], [0, 0]);
 }
 
@@ -202,7 +202,7 @@ fn the_largest_accepted_numbers() {
     assert_eq!(unprotected.exposure, 1_000_000_000_000);
     assert_eq!(unprotected.weighted, 1_500_000_000_000);
     let protected = report(&deal(terms, &[cash; 16], &[guarantee; 16]));
-    assert_eq!(protected.collateral, [Valued(1_000_000_000_000); 16]);
+    assert_eq!(protected.collateral, [whole(1_000_000_000_000); 16]);
     assert_eq!([protected.exposure, protected.weighted], [0, 0]);
-    assert_eq!(protected.guarantees, [(Valued(1_000_000_000_000), 0); 16]);
+    assert_eq!(protected.guarantees, [(whole(1_000_000_000_000), 0); 16]);
 }

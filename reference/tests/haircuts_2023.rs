@@ -4,8 +4,8 @@
 mod common;
 
 use common::*;
-use reference::{report, Collateral, Guarantee, Outcome, Terms};
-use Outcome::{LeftOut, Valued};
+use reference::{report, Collateral, Guarantee, Terms};
+use Bare::{LeftOut, Valued};
 
 /// Kind and interval with n = 10, 5, 20, 40 and 269.
 const PERIODS: [(u64, u64); 5] = [(2, 1), (1, 1), (3, 1), (3, 21), (3, 250)];

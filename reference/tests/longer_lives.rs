@@ -5,9 +5,9 @@ mod common;
 use common::*;
 use reference::{
     add_collateral, add_guarantee, answer_book, deals, open, printed_reports, report, Collateral,
-    DealRead, Guarantee, Outcome, Record, Terms, AMOUNT_LIMIT,
+    DealRead, Guarantee, Record, Terms, AMOUNT_LIMIT,
 };
-use Outcome::{LeftOut, Valued};
+use Bare::{LeftOut, Valued};
 
 const ROUNDS: u64 = 20_000;
 const LONGEST: u64 = 100_000;
@@ -249,14 +249,14 @@ C 500000 2 1 100000 978 100000 100000 1 1 1 0
 D 1000000 3 0 978 2 1 100001 1 0 0
 ";
     let reports = "\
-REPORT 1
+REPORT 2
 1 EXPOSURE 520000
-1 COLLATERAL 1 VALUE 480000
-1 GUARANTEE 1 VALUE 94736 94736
+1 COLLATERAL 1 VALUE 480000 20000 0 0
+1 GUARANTEE 1 VALUE 94736 0 105264 0 94736
 1 REST 425264
 1 WEIGHTED 425264
 2 EXPOSURE 560000
-2 COLLATERAL 1 VALUE 480000
+2 COLLATERAL 1 VALUE 480000 20000 0 0
 2 REST 560000
 2 WEIGHTED 560000
 3 REFUSED 5 7
@@ -471,12 +471,7 @@ const RECORDED_REPORTS: &str = include_str!("recorded/before_l11.reports");
 
 #[test]
 fn answers_recorded_before_are_kept() {
-    let printed = printed_reports(RECORDED_BOOK.as_bytes());
-    let printed = String::from_utf8(printed).expect("plain text");
-    for (now, before) in printed.lines().zip(RECORDED_REPORTS.lines()) {
-        assert_eq!(now, before);
-    }
-    assert_eq!(printed.len(), RECORDED_REPORTS.len());
+    assert_recorded(RECORDED_BOOK, RECORDED_REPORTS);
 }
 
 #[test]

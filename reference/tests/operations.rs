@@ -396,8 +396,8 @@ fn is_40(record: &Record) -> bool {
     let refused = [added, guaranteed, swapped, reply.refusal] == [40; 4];
     if refused {
         assert_eq!(&same, record);
-        assert_eq!(reply.collateral, [Outcome::Valued(0); 16]);
-        assert_eq!(reply.guarantees, [(Outcome::Valued(0), 0); 16]);
+        assert_eq!(reply.collateral, [Outcome::default(); 16]);
+        assert_eq!(reply.guarantees, [(Outcome::default(), 0); 16]);
         assert_eq!([reply.exposure, reply.rest, reply.weighted], [0; 3]);
     } else {
         assert_ne!(added, 40);

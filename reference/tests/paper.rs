@@ -3,8 +3,8 @@
 mod common;
 
 use common::*;
-use reference::{printed, printed_reports, report, Collateral, Guarantee, Outcome, Terms};
-use Outcome::{LeftOut, Valued};
+use reference::{printed, printed_reports, report, Collateral, Guarantee, Terms};
+use Bare::{LeftOut, Valued};
 
 const EXAMPLE: &str = "\
 CRM 1
@@ -29,10 +29,10 @@ RESULT 1
 #[test]
 fn reports_of_the_example_book() {
     let reports = "\
-REPORT 1
+REPORT 2
 1 EXPOSURE 611314
-1 COLLATERAL 1 VALUE 388686
-1 GUARANTEE 1 VALUE 200000 200000
+1 COLLATERAL 1 VALUE 388686 11314 0 0
+1 GUARANTEE 1 VALUE 200000 0 0 0 200000
 1 REST 411314
 1 WEIGHTED 411314
 2 REFUSED 3 5
@@ -153,8 +153,8 @@ fn cover_rises_in_weight() {
     };
     let report = report(&deal(terms, &[], &[bank, sovereign]));
     assert_eq!(report.exposure, 100);
-    assert_eq!(report.guarantees[0], (Valued(80), 40));
-    assert_eq!(report.guarantees[1], (Valued(60), 60));
+    assert_eq!(report.guarantees[0], (whole(80), 40));
+    assert_eq!(report.guarantees[1], (whole(60), 60));
     assert_eq!(report.rest, 0);
     assert_eq!(report.weighted, 8);
 }

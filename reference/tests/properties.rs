@@ -11,13 +11,6 @@ use reference::{
 
 const ROUNDS: u64 = 20_000;
 
-fn value(outcome: Outcome) -> u64 {
-    match outcome {
-        Outcome::Valued(value) => value,
-        Outcome::LeftOut(_) => 0,
-    }
-}
-
 /// The weight of a class, step and sovereign's step, where editions 2 and 3 have
 /// a floor for the unrated of some classes.
 fn weight_with_floor(party: [u64; 3], floored: &[u64], edition: u64) -> u64 {
@@ -41,7 +34,7 @@ fn portions_and_rest_make_up_the_exposure() {
         assert_eq!(covered + report.rest, report.exposure);
         assert!(report.exposure <= record.terms.amount);
         for (outcome, portion) in report.guarantees {
-            assert!(portion <= value(outcome));
+            assert!(portion <= outcome.value());
         }
     }
 }
@@ -54,14 +47,16 @@ fn no_value_exceeds_its_amount_and_grounds_are_known() {
         let report = report(&record);
         for (item, outcome) in record.collateral.iter().zip(report.collateral) {
             match outcome {
-                Outcome::Valued(value) => assert!(value <= item.amount),
-                Outcome::LeftOut(ground) => assert!((21..=26).contains(&ground)),
+                Outcome::Valued(valuation) => assert!(valuation.value <= item.amount),
+                Outcome::LeftOut { ground, .. } => assert!((21..=26).contains(&ground)),
             }
         }
         for (item, (outcome, _)) in record.guarantees.iter().zip(report.guarantees) {
             match outcome {
-                Outcome::Valued(value) => assert!(value <= item.guarantee().amount),
-                Outcome::LeftOut(ground) => {
+                Outcome::Valued(valuation) => {
+                    assert!(valuation.value <= item.guarantee().amount);
+                }
+                Outcome::LeftOut { ground, .. } => {
                     assert!([21, 23, 25, 26, 27, 28, 29].contains(&ground));
                 }
             }
@@ -88,10 +83,10 @@ fn places_past_a_count_hold_zeros_and_have_no_effect() {
         }
         assert_eq!(report(&filled), first);
         for outcome in &first.collateral[record.collateral_count as usize..] {
-            assert_eq!(*outcome, Outcome::Valued(0));
+            assert_eq!(*outcome, Outcome::default());
         }
         for place in &first.guarantees[record.guarantee_count as usize..] {
-            assert_eq!(*place, (Outcome::Valued(0), 0));
+            assert_eq!(*place, (Outcome::default(), 0));
         }
     }
 }
@@ -102,7 +97,7 @@ fn cover_by_picking(record: &Record, report: &Report) -> ([u64; 16], u64) {
     let mut portions = [0; 16];
     let mut rest = report.exposure;
     let mut open: Vec<usize> = (0..16)
-        .filter(|&place| matches!(report.guarantees[place].0, Outcome::Valued(1..)))
+        .filter(|&place| report.guarantees[place].0.value() > 0)
         .collect();
     let weight_at = |place: usize| {
         let item = record.guarantees[place].guarantee();
@@ -111,7 +106,7 @@ fn cover_by_picking(record: &Record, report: &Report) -> ([u64; 16], u64) {
     };
     while let Some(&next) = open.iter().min_by_key(|&&place| (weight_at(place), place)) {
         open.retain(|&place| place != next);
-        portions[next] = rest.min(value(report.guarantees[next].0));
+        portions[next] = rest.min(report.guarantees[next].0.value());
         rest -= portions[next];
     }
     let weighted: u64 = (0..16)
@@ -181,42 +176,6 @@ fn refused_adds_leave_the_record_unchanged() {
     assert!(refused > ROUNDS / 4);
 }
 
-/// The least h with 10 × h × h at or above H × H × n, by halving.
-fn scaled(haircut: u64, n: u64) -> u64 {
-    let (mut low, mut high) = (0, 2_000_000);
-    while low < high {
-        let middle = (low + high) / 2;
-        if 10 * middle * middle >= haircut * haircut * n {
-            high = middle;
-        } else {
-            low = middle + 1;
-        }
-    }
-    low
-}
-
-/// Steps 1 and 2 of the way from items to the weighted amount.
-fn value_by_the_steps(amount: u64, haircuts: u64, residual: u64, deal_term: u64) -> u64 {
-    let value = amount * (1_000_000 - haircuts.min(1_000_000)) / 1_000_000;
-    if residual >= deal_term {
-        return value;
-    }
-    let longest = deal_term.min(1_800);
-    value * (residual.min(longest) - 90) / (longest - 90)
-}
-
-/// The amount that L1 starts from: 60 percent of the smaller of the swap and the
-/// deal's amount where restructuring is no credit event.
-fn amount_by_the_request(item: &Cover, deal_amount: u64) -> u64 {
-    let amount = item.guarantee().amount;
-    match item {
-        Cover::Swap(Swap {
-            restructuring: 0, ..
-        }) => amount.min(deal_amount) * 60 / 100,
-        _ => amount,
-    }
-}
-
 #[test]
 fn values_are_those_of_the_steps() {
     let mut random = Random::new(11);
@@ -224,33 +183,23 @@ fn values_are_those_of_the_steps() {
         let record = random.deal();
         let report = report(&record);
         let terms = &record.terms;
-        let n = terms.interval + [5, 10, 20][terms.kind as usize - 1] - 1;
         let mut total = 0;
         for (item, outcome) in record.collateral.iter().zip(report.collateral) {
-            if let (Outcome::Valued(value), 1..) = (outcome, item.goods) {
-                let goods = [item.goods, item.step, item.life, item.listed];
-                let own = scaled(table_haircut(goods, terms.edition), n);
-                let foreign = u64::from(item.currency != terms.currency);
-                let haircuts = own + foreign * scaled(80_000, n);
-                let expected =
-                    value_by_the_steps(item.amount, haircuts, item.residual, terms.residual);
-                assert_eq!(value, expected);
+            if let (Outcome::Valued(valuation), 1..) = (outcome, item.goods) {
+                let [.., value] = steps_of_collateral(terms, item);
+                assert_eq!(valuation.value, value);
                 total += value;
             }
         }
         let lent = [terms.lent_goods, terms.lent_step, terms.lent_life, 0];
-        let haircut = scaled(lent_haircut(lent, terms.edition), n);
+        let haircut = scaled_haircut(lent_haircut(lent, terms.edition), days_of(terms));
         let raised = (terms.amount * (1_000_000 + haircut)).div_ceil(1_000_000);
         let exposure = raised.saturating_sub(total).min(terms.amount);
         assert_eq!(report.exposure, exposure);
         for (item, (outcome, _)) in record.guarantees.iter().zip(report.guarantees) {
-            let sent = item.guarantee();
-            if let (Outcome::Valued(value), 1..) = (outcome, sent.class) {
-                let amount = amount_by_the_request(item, terms.amount);
-                let foreign = u64::from(sent.currency != terms.currency);
-                let haircut = foreign * scaled(80_000, terms.interval + 9);
-                let expected = value_by_the_steps(amount, haircut, sent.residual, terms.residual);
-                assert_eq!(value, expected);
+            if let (Outcome::Valued(valuation), 1..) = (outcome, item.guarantee().class) {
+                let [.., value] = steps_of_cover(terms, item);
+                assert_eq!(valuation.value, value);
             }
         }
     }

@@ -8,7 +8,6 @@ use reference::{
     add_collateral, add_guarantee, add_swap, answer_book, deals, open, printed, printed_reports,
     report, Collateral, Cover, DealRead, Guarantee, Outcome, Record, Swap, Terms,
 };
-use Outcome::Valued;
 
 const ROUNDS: u64 = 20_000;
 
@@ -46,17 +45,17 @@ fn a_book_headed_1() {
     // left: 120,000 × 20 + 107,314 × 100 = 13,131,400. Deal 2: 60 percent of 900
     // at 50, without a floor: 540 × 50 + 360 × 75 = 54,000.
     let reports = "\
-REPORT 1
+REPORT 2
 1 EXPOSURE 611314
-1 COLLATERAL 1 VALUE 388686
-1 GUARANTEE 1 VALUE 200000 200000
-1 SWAP 2 VALUE 120000 120000
-1 SWAP 3 VALUE 184000 184000
+1 COLLATERAL 1 VALUE 388686 11314 0 0
+1 GUARANTEE 1 VALUE 200000 0 0 0 200000
+1 SWAP 2 VALUE 120000 0 0 80000 120000
+1 SWAP 3 VALUE 184000 16000 0 0 184000
 1 REST 107314
 1 WEIGHTED 131314
 2 EXPOSURE 900
-2 SWAP 1 VALUE 540 540
-2 SWAP 2 GROUND 28 0
+2 SWAP 1 VALUE 540 0 0 460 540
+2 SWAP 2 GROUND 28 100 0
 2 REST 360
 2 WEIGHTED 540
 3 REFUSED 8 11
@@ -87,15 +86,15 @@ fn a_book_headed_2() {
     // retail. Deal 2, at 150 by its sovereign: the guarantee at 50 covers 300
     // first, the swap 600 at 100: 15,000 + 60,000 + 100 × 150 = 90,000.
     let reports = "\
-REPORT 1
+REPORT 2
 1 EXPOSURE 900
-1 SWAP 1 VALUE 540 540
-1 SWAP 2 GROUND 29 0
+1 SWAP 1 VALUE 540 0 0 460 540
+1 SWAP 2 GROUND 29 1000 0
 1 REST 360
 1 WEIGHTED 540
 2 EXPOSURE 1000
-2 SWAP 1 VALUE 600 600
-2 GUARANTEE 2 VALUE 300 300
+2 SWAP 1 VALUE 600 0 0 400 600
+2 GUARANTEE 2 VALUE 300 0 0 0 300
 2 REST 100
 2 WEIGHTED 900
 ";
@@ -116,11 +115,11 @@ fn a_book_headed_3() {
     // At 150, like the unrated bank. 600,000 at 30, then 400,000 of 460,000 at
     // 75: 18,000,000 + 30,000,000.
     let reports = "\
-REPORT 1
+REPORT 2
 1 EXPOSURE 1000000
-1 SWAP 1 VALUE 600000 600000
-1 GUARANTEE 2 VALUE 460000 400000
-1 SWAP 3 GROUND 29 0
+1 SWAP 1 VALUE 600000 0 0 1400000 600000
+1 GUARANTEE 2 VALUE 460000 40000 0 0 400000
+1 SWAP 3 GROUND 29 300000 0
 1 REST 0
 1 WEIGHTED 480000
 ";
@@ -565,7 +564,7 @@ fn a_counted_swap_with_restructuring_2_is_40() {
                 assert_eq!(refusals(&record), [40; 4], "{place}");
                 let reply = report(&record);
                 assert_eq!([reply.exposure, reply.rest, reply.weighted], [0; 3]);
-                assert_eq!(reply.guarantees, [(Valued(0), 0); 16]);
+                assert_eq!(reply.guarantees, [(Outcome::default(), 0); 16]);
             } else {
                 assert_eq!(refusals(&record), [0; 4], "{place}");
                 assert_eq!(report(&record), report(&sound_record()));

@@ -6,10 +6,10 @@ mod common;
 
 use common::*;
 use reference::{
-    add_swap, answer_book, deals, printed_reports, report, Collateral, Cover, DealRead, Guarantee,
-    Outcome, Swap, Terms,
+    add_swap, answer_book, deals, report, Collateral, Cover, DealRead, Guarantee, Outcome, Swap,
+    Terms,
 };
-use Outcome::{LeftOut, Valued};
+use Bare::{LeftOut, Valued};
 
 const ROUNDS: u64 = 20_000;
 const LIMIT: u64 = 1_000_000_000_000;
@@ -89,11 +89,11 @@ fn what_is_cut_stays_uncovered() {
     // Weights 0 and 100: 600 of 1,000 are covered, or all of it.
     let report_of = |swap: Swap| report(&covered(terms_for(1_000), &[swap.into()]));
     let cut = report_of(swap_of(1_001));
-    assert_eq!(cut.guarantees[0], (Valued(600), 600));
+    assert_eq!(cut.guarantees[0], (cut_to(600, 1_001), 600));
     assert_eq!([cut.exposure, cut.rest, cut.weighted], [1_000, 400, 400]);
-    let whole = report_of(met(swap_of(1_001)));
-    assert_eq!(whole.guarantees[0], (Valued(1_001), 1_000));
-    assert_eq!([whole.exposure, whole.rest, whole.weighted], [1_000, 0, 0]);
+    let uncut = report_of(met(swap_of(1_001)));
+    assert_eq!(uncut.guarantees[0], (whole(1_001), 1_000));
+    assert_eq!([uncut.exposure, uncut.rest, uncut.weighted], [1_000, 0, 0]);
 }
 
 #[test]
@@ -106,7 +106,7 @@ fn the_cut_looks_at_the_deals_amount_as_sent() {
     let mut record = deal(terms_for(1_000), &[cash], &[]);
     assert_eq!(add_swap(&mut record, swap_of(800)), 0);
     let secured = report(&record);
-    assert_eq!(secured.guarantees[0], (Valued(480), 300));
+    assert_eq!(secured.guarantees[0], (cut_to(480, 800), 300));
     assert_eq!([secured.exposure, secured.rest], [300, 0]);
 
     // Lent equity raises 1,000 to 1,250 at n = 10; 60 percent is of 1,000 still.
@@ -124,8 +124,8 @@ fn each_swap_is_cut_by_itself() {
     // Two of 1,000 for a deal of 1,000 are worth 600 each and cover all of it.
     let record = covered(terms_for(1_000), &[swap_of(1_000).into(); 2]);
     let report = report(&record);
-    assert_eq!(report.guarantees[0], (Valued(600), 600));
-    assert_eq!(report.guarantees[1], (Valued(600), 400));
+    assert_eq!(report.guarantees[0], (cut_to(600, 1_000), 600));
+    assert_eq!(report.guarantees[1], (cut_to(600, 1_000), 400));
     assert_eq!([report.rest, report.weighted], [0, 0]);
 }
 
@@ -212,20 +212,15 @@ fn the_largest_accepted_numbers() {
     });
     // 600 and 400 thousand million at 20, then nothing is left to cover.
     let full = report(&covered(terms_for(LIMIT), &[bank.into(); 16]));
-    assert_eq!(
-        full.guarantees[0],
-        (Valued(600_000_000_000), 600_000_000_000)
-    );
-    assert_eq!(
-        full.guarantees[1],
-        (Valued(600_000_000_000), 400_000_000_000)
-    );
-    assert_eq!(full.guarantees[2..], [(Valued(600_000_000_000), 0); 14]);
+    let cut = cut_to(600_000_000_000, LIMIT);
+    assert_eq!(full.guarantees[0], (cut, 600_000_000_000));
+    assert_eq!(full.guarantees[1], (cut, 400_000_000_000));
+    assert_eq!(full.guarantees[2..], [(cut, 0); 14]);
     assert_eq!([full.rest, full.weighted], [0, 200_000_000_000]);
-    let whole = report(&covered(terms_for(LIMIT), &[met(bank).into(); 16]));
-    assert_eq!(whole.guarantees[0], (Valued(LIMIT), LIMIT));
-    assert_eq!(whole.guarantees[1..], [(Valued(LIMIT), 0); 15]);
-    assert_eq!([whole.rest, whole.weighted], [0, 200_000_000_000]);
+    let uncut = report(&covered(terms_for(LIMIT), &[met(bank).into(); 16]));
+    assert_eq!(uncut.guarantees[0], (whole(LIMIT), LIMIT));
+    assert_eq!(uncut.guarantees[1..], [(whole(LIMIT), 0); 15]);
+    assert_eq!([uncut.rest, uncut.weighted], [0, 200_000_000_000]);
 }
 
 /// The guarantee that a swap counts as, by the words of the request.
@@ -252,7 +247,17 @@ fn a_swap_is_reported_like_the_guarantee_that_it_counts_as() {
         for item in &mut guaranteed.guarantees {
             *item = as_guarantee(item, record.terms.amount).into();
         }
-        assert_eq!(report(&guaranteed), report(&record));
+        let mut expected = report(&guaranteed);
+        for (item, (outcome, _)) in record.guarantees.iter().zip(&mut expected.guarantees) {
+            let counts_as = as_guarantee(item, record.terms.amount).amount;
+            match outcome {
+                Outcome::Valued(valuation) => {
+                    valuation.cut_loss = item.guarantee().amount - counts_as;
+                }
+                Outcome::LeftOut { amount, .. } => *amount = item.guarantee().amount,
+            }
+        }
+        assert_eq!(report(&record), expected);
         let mut whole = record.clone();
         for item in &mut whole.guarantees {
             *item = (*item.guarantee()).into();
@@ -334,7 +339,7 @@ fn every_ground_of_a_swap_by_itself() {
     ] {
         for swap in [swap_for(guarantee), met(swap_for(guarantee))] {
             let report = report(&covered(TERMS, &[swap.into()]));
-            assert_eq!(report.guarantees[0], (LeftOut(ground), 0));
+            assert_eq!(report.guarantees[0], (left_out(ground, 1_000), 0));
             assert_eq!([report.rest, report.weighted], [1_000_000; 2]);
         }
     }
@@ -381,8 +386,8 @@ fn a_later_swap_at_a_lower_weight_covers_first() {
     // Document 01's 80 at 20 before 60 at 0, the latter as 60 percent of 100.
     let items = [guaranteed(80, [2, 1, 0]).into(), swap_of(150).into()];
     let found = report(&covered(terms_for(100), &items));
-    assert_eq!(found.guarantees[0], (Valued(80), 40));
-    assert_eq!(found.guarantees[1], (Valued(60), 60));
+    assert_eq!(found.guarantees[0], (whole(80), 40));
+    assert_eq!(found.guarantees[1], (cut_to(60, 150), 60));
     assert_eq!(found.weighted, 8);
 }
 
@@ -392,18 +397,9 @@ fn a_later_swap_at_a_lower_weight_covers_first() {
 const RECORDED_BOOK: &str = include_str!("recorded/before_l1.book");
 const RECORDED_REPORTS: &str = include_str!("recorded/before_l1.reports");
 
-fn assert_printed(book: &str, reports: &str) {
-    let printed = printed_reports(book.as_bytes());
-    let printed = String::from_utf8(printed).expect("plain text");
-    for (now, before) in printed.lines().zip(reports.lines()) {
-        assert_eq!(now, before);
-    }
-    assert_eq!(printed.len(), reports.len());
-}
-
 #[test]
 fn answers_recorded_before_are_kept() {
-    assert_printed(RECORDED_BOOK, RECORDED_REPORTS);
+    assert_recorded(RECORDED_BOOK, RECORDED_REPORTS);
 }
 
 #[test]
@@ -449,7 +445,7 @@ fn recorded_as_swaps(condition: &str) -> String {
 #[test]
 fn the_recorded_answers_are_those_of_swaps_with_the_condition_met() {
     let reports = RECORDED_REPORTS.replace("\tGUARANTEE\t", "\tSWAP\t");
-    assert_printed(&recorded_as_swaps("1"), &reports);
+    assert_recorded(&recorded_as_swaps("1"), &reports);
 }
 
 #[test]

@@ -5,8 +5,8 @@
 mod common;
 
 use common::*;
-use reference::{report, Guarantee, Outcome, Terms};
-use Outcome::{LeftOut, Valued};
+use reference::{report, Guarantee, Terms};
+use Bare::{LeftOut, Valued};
 
 /// Class, and the weights at steps 1 to 6 and unrated, as document 01 prints its
 /// table, with what L9 changes.
@@ -65,7 +65,8 @@ fn guaranteed(counterparty: Party, provider: Party, edition: u64) -> (u8, u64) {
         ..guarantee_of(provider)
     };
     let report = report(&deal(terms, &[], &[item]));
-    match report.guarantees[0] {
+    let (outcome, portion) = report.guarantees[0];
+    match (bare(outcome, 40), portion) {
         (LeftOut(ground), 0) => (ground, report.weighted),
         (Valued(40), 40) => (0, report.weighted),
         other => panic!("{other:?}"),

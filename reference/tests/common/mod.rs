@@ -3,8 +3,8 @@
 #![allow(dead_code)] // each test file uses some of these
 
 use reference::{
-    add_collateral, add_guarantee, add_swap, answer_book, open, report, Collateral, Cover,
-    Guarantee, Outcome, Record, Swap, Terms,
+    add_collateral, add_guarantee, add_swap, answer_book, open, printed_reports, report,
+    Collateral, Cover, Guarantee, Outcome, Record, Swap, Terms, Valuation,
 };
 
 pub const EDITIONS: [u64; 3] = [1, 2, 3];
@@ -156,19 +156,110 @@ pub fn under(record: &Record, edition: u64) -> Record {
     changed
 }
 
-/// Outcome of a single item of collateral.
-pub fn outcome_of_collateral(terms: Terms, item: Collateral) -> Outcome {
-    report(&deal(terms, &[item], &[])).collateral[0]
+/// An item's value or ground alone.
+#[derive(Clone, Copy, Debug, PartialEq, Eq)]
+pub enum Bare {
+    Valued(u64),
+    LeftOut(u8),
 }
 
-/// Outcome of a single guarantee.
-pub fn outcome_of_guarantee(terms: Terms, item: Guarantee) -> Outcome {
-    report(&deal(terms, &[], &[item])).guarantees[0].0
+/// The value or ground of an item of the amount, all of which its outcome must
+/// account for.
+pub fn bare(outcome: Outcome, amount: u64) -> Bare {
+    match outcome {
+        Outcome::Valued(valuation) => {
+            assert_eq!(sum(valuation), amount);
+            Bare::Valued(valuation.value)
+        }
+        Outcome::LeftOut {
+            ground,
+            amount: left_out,
+        } => {
+            assert_eq!(left_out, amount);
+            Bare::LeftOut(ground)
+        }
+    }
 }
 
-/// Outcome of a single swap.
-pub fn outcome_of_swap(terms: Terms, item: Swap) -> Outcome {
-    report(&covered(terms, &[item.into()])).guarantees[0].0
+/// Value and losses together.
+pub fn sum(valuation: Valuation) -> u64 {
+    let Valuation {
+        value,
+        haircut_loss,
+        maturity_loss,
+        cut_loss,
+    } = valuation;
+    value + haircut_loss + maturity_loss + cut_loss
+}
+
+/// The outcome of an item that loses nothing.
+pub fn whole(value: u64) -> Outcome {
+    Outcome::Valued(Valuation {
+        value,
+        ..Valuation::default()
+    })
+}
+
+/// The outcome of a swap that loses by its cut alone.
+pub fn cut_to(value: u64, amount: u64) -> Outcome {
+    Outcome::Valued(Valuation {
+        value,
+        cut_loss: amount - value,
+        ..Valuation::default()
+    })
+}
+
+pub fn left_out(ground: u8, amount: u64) -> Outcome {
+    Outcome::LeftOut { ground, amount }
+}
+
+/// Value or ground of a single item of collateral.
+pub fn outcome_of_collateral(terms: Terms, item: Collateral) -> Bare {
+    let report = report(&deal(terms, &[item], &[]));
+    bare(report.collateral[0], item.amount)
+}
+
+/// Value or ground of a single guarantee.
+pub fn outcome_of_guarantee(terms: Terms, item: Guarantee) -> Bare {
+    outcome_of_cover(terms, item.into())
+}
+
+/// Value or ground of a single swap.
+pub fn outcome_of_swap(terms: Terms, item: Swap) -> Bare {
+    outcome_of_cover(terms, item.into())
+}
+
+fn outcome_of_cover(terms: Terms, item: Cover) -> Bare {
+    let report = report(&covered(terms, &[item]));
+    bare(report.guarantees[0].0, item.guarantee().amount)
+}
+
+/// The printed reports of a book as they were before L2, in form 1: without
+/// losses and amounts left out.
+pub fn reports_in_form_1(book: &str) -> String {
+    let printed = String::from_utf8(printed_reports(book.as_bytes())).expect("plain text");
+    let lines = printed.strip_prefix("REPORT\t2\n").expect("reports");
+    let mut reports = "REPORT\t1\n".to_string();
+    for line in lines.lines() {
+        let mut fields: Vec<&str> = line.split('\t').collect();
+        fields.drain(match fields.get(3) {
+            Some(&"VALUE") => 5..8,
+            Some(&"GROUND") => 5..6,
+            _ => 0..0,
+        });
+        reports += &(fields.join("\t") + "\n");
+    }
+    reports
+}
+
+/// Holds a book's answers against the reports that were recorded for it in form
+/// 1: exposures, values, grounds, portions, rests, weighted amounts, refusals.
+pub fn assert_recorded(book: &str, recorded: &str) {
+    let found = reports_in_form_1(book);
+    for (now, before) in found.lines().zip(recorded.lines()) {
+        assert_eq!(now, before);
+    }
+    assert_eq!(found.len(), recorded.len());
 }
 
 /// Refusals of the record by reporting and by every way of adding.
@@ -338,6 +429,70 @@ pub fn lent_haircut([goods, step, life, _]: Goods, edition: u64) -> u64 {
     } else {
         not_eligible(edition)
     }
+}
+
+/// The least h with 10 × h × h at or above H × H × n, by halving.
+pub fn scaled_haircut(haircut: u64, n: u64) -> u64 {
+    let (mut low, mut high) = (0, 2_000_000);
+    while low < high {
+        let middle = (low + high) / 2;
+        if 10 * middle * middle >= haircut * haircut * n {
+            high = middle;
+        } else {
+            low = middle + 1;
+        }
+    }
+    low
+}
+
+/// The holding period of the deal's own haircuts.
+pub fn days_of(terms: &Terms) -> u64 {
+    terms.interval + [5, 10, 20][terms.kind as usize - 1] - 1
+}
+
+fn currency_haircut(terms: &Terms, currency: u64, n: u64) -> u64 {
+    if currency == terms.currency {
+        0
+    } else {
+        scaled_haircut(80_000, n)
+    }
+}
+
+/// The sent amount of an item that is not left out, and what is left of it after
+/// the cut, after the haircuts and after the maturity step.
+pub type Steps = [u64; 4];
+
+/// Steps 1 and 2 of the way from items to the weighted amount.
+fn steps([sent, cut]: [u64; 2], haircuts: u64, residual: u64, deal_term: u64) -> Steps {
+    let kept = cut * (1_000_000 - haircuts.min(1_000_000)) / 1_000_000;
+    if residual >= deal_term {
+        return [sent, cut, kept, kept];
+    }
+    let longest = deal_term.min(1_800);
+    let value = kept * (residual.min(longest) - 90) / (longest - 90);
+    [sent, cut, kept, value]
+}
+
+pub fn steps_of_collateral(terms: &Terms, item: &Collateral) -> Steps {
+    let n = days_of(terms);
+    let goods = [item.goods, item.step, item.life, item.listed];
+    let own = scaled_haircut(table_haircut(goods, terms.edition), n);
+    let haircuts = own + currency_haircut(terms, item.currency, n);
+    steps([item.amount; 2], haircuts, item.residual, terms.residual)
+}
+
+/// A swap without the condition starts from 60 percent of the smaller of its own
+/// and the deal's amount.
+pub fn steps_of_cover(terms: &Terms, item: &Cover) -> Steps {
+    let sent = item.guarantee();
+    let cut = match item {
+        Cover::Swap(Swap {
+            restructuring: 0, ..
+        }) => sent.amount.min(terms.amount) * 60 / 100,
+        _ => sent.amount,
+    };
+    let haircut = currency_haircut(terms, sent.currency, terms.interval + 9);
+    steps([sent.amount, cut], haircut, sent.residual, terms.residual)
 }
 
 /// The numbers of a D line; the edition stands in the header.
