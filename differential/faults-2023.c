@@ -35,6 +35,7 @@ static void drop_sovereigns(struct hadlephoga_deal *deal)
 static struct hadlephoga_report put_together(const struct looked_into *editions, struct hadlephoga_deal deal)
 {
   struct hadlephoga_report under[] = {report_under(1, &deal), report_under(2, &deal), report_under(3, &deal)};
+  struct hadlephoga_deal sent = deal;
   struct hadlephoga_report report;
   uint64_t exposure;
 
@@ -46,6 +47,7 @@ static struct hadlephoga_report put_together(const struct looked_into *editions,
   settle_swaps(&deal);
   leave_exposure(&deal, exposure);
   report = report_under(editions->parties, &deal);
+  put_losses(&sent, &deal, &deal, &report);
   for (size_t i = 0; i < HADLEPHOGA_ITEMS; i++)
     report.collateral[i] = under[editions->collateral[i] - 1].collateral[i];
   return report;

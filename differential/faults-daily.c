@@ -163,7 +163,6 @@ static void cut_collateral(const struct mistake *of, uint64_t days, struct hadle
 
 static void cut_guarantees(const struct mistake *of, uint64_t days, struct hadlephoga_deal *deal)
 {
-  settle_swaps(deal);
   for (size_t i = 0; i < deal->guarantee_count; i++) {
     struct hadlephoga_held_guarantee *item = &deal->guarantees[i];
 
@@ -185,6 +184,7 @@ static uint64_t exposure_left(uint64_t amount, uint64_t haircut, const struct ha
 
 void mistake_figures(const char *of, struct hadlephoga_deal deal, struct hadlephoga_report *report)
 {
+  struct hadlephoga_deal sent = deal, settled;
   struct hadlephoga_report valued;
   struct mistake mistake;
   uint64_t days, lent;
@@ -195,9 +195,12 @@ void mistake_figures(const char *of, struct hadlephoga_deal deal, struct hadleph
   days = deal_days(of, &deal.terms);
   lent = figure(&mistake, LENT, lent_haircut(&deal), days);
   cut_collateral(&mistake, days, &deal);
+  settle_swaps(&deal);
+  settled = deal;
   cut_guarantees(&mistake, guarantee_days(of, &deal.terms), &deal);
   valued = exact_report(&deal);
   leave_exposure(&deal, exposure_left(deal.terms.amount, lent, &valued));
   *report = exact_report(&deal);
   memcpy(report->collateral, valued.collateral, sizeof valued.collateral);
+  put_losses(&sent, &settled, &deal, report);
 }

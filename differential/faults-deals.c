@@ -42,6 +42,29 @@ void leave_exposure(struct hadlephoga_deal *deal, uint64_t exposure)
   deal->collateral_count = 0;
 }
 
+void put_losses(const struct hadlephoga_deal *sent, const struct hadlephoga_deal *settled,
+                const struct hadlephoga_deal *passed, struct hadlephoga_report *report)
+{
+  for (size_t i = 0; i < sent->collateral_count; i++) {
+    struct hadlephoga_outcome *item = &report->collateral[i];
+
+    if (item->ground != 0)
+      item->left_out = sent->collateral[i].amount;
+    else
+      item->haircut_loss += sent->collateral[i].amount - passed->collateral[i].amount;
+  }
+  for (size_t i = 0; i < sent->guarantee_count; i++) {
+    struct hadlephoga_cover *item = &report->guarantees[i];
+
+    if (item->ground != 0) {
+      item->left_out = sent->guarantees[i].amount;
+    } else {
+      item->cut_loss += sent->guarantees[i].amount - settled->guarantees[i].amount;
+      item->haircut_loss += settled->guarantees[i].amount - passed->guarantees[i].amount;
+    }
+  }
+}
+
 /* The numbers of an accepted line, behind its letter; the one in the place left out
  * reads 0. */
 static void read_numbers(const uint8_t *line, uint64_t *numbers, size_t count, size_t left_out)

@@ -165,8 +165,12 @@ static void cover_in_turn(struct hadlephoga_deal deal, int swaps_first, struct h
     without_mismatch(&deal, &deal.guarantees[i]);
   }
   *report = exact_report(&deal);
-  for (size_t i = 0; i < HADLEPHOGA_ITEMS; i++)
-    report->guarantees[i].value = exact.guarantees[i].value;
+  for (size_t i = 0; i < HADLEPHOGA_ITEMS; i++) {
+    uint64_t portion = report->guarantees[i].portion;
+
+    report->guarantees[i] = exact.guarantees[i];
+    report->guarantees[i].portion = portion;
+  }
 }
 
 /* The deal as if all guarantees, or all swaps, had been added first: so it is with
@@ -204,6 +208,7 @@ void mistake_swaps(const char *of, struct hadlephoga_deal deal, struct hadlephog
     for (size_t i = 0; i < deal.guarantee_count; i++)
       mistake_item(of, &deal, exposure, &mistaken.guarantees[i]);
     *report = exact_report(&mistaken);
+    put_losses(&deal, &mistaken, &mistaken, report);
   }
 }
 

@@ -1,9 +1,13 @@
 /* The proved library with one number spoiled, or with some days, a party, an
- * edition, a table, a stored figure or a swap mistaken, chosen by HADLEPHOGA_FAULT. */
+ * edition, a table, a stored figure, a swap or a loss mistaken, chosen by
+ * HADLEPHOGA_FAULT. */
 #include <stdlib.h>
 #include <string.h>
 
 #include "faults.h"
+
+/* Numbers of a report before there were losses. */
+#define EARLIER_REPORT_LENGTH 83
 
 static const char *chosen(void)
 {
@@ -343,41 +347,52 @@ uint64_t hadlephoga_add_swap(uint64_t *record, size_t record_length,
   return added_guarantee("swap", refusal, record, record_length);
 }
 
+/* One number of the report of an accepted deal, but for those of faults-losses.c. */
+static void spoil_report(struct hadlephoga_report *report)
+{
+  if (fault("report-exposure"))
+    lower(&report->exposure);
+  if (fault("report-collateral-value"))
+    lower_last(&report->collateral[0].value, HADLEPHOGA_OUTCOME_WIDTH);
+  if (fault("report-collateral-ground"))
+    lower_last(&report->collateral[0].ground, HADLEPHOGA_OUTCOME_WIDTH);
+  if (fault("report-guarantee-value"))
+    lower_last(&report->guarantees[0].value, HADLEPHOGA_COVER_WIDTH);
+  if (fault("report-guarantee-ground"))
+    lower_last(&report->guarantees[0].ground, HADLEPHOGA_COVER_WIDTH);
+  if (fault("report-portion"))
+    lower_last(&report->guarantees[0].portion, HADLEPHOGA_COVER_WIDTH);
+  if (fault("report-rest"))
+    lower(&report->rest);
+  if (fault("report-weighted-amount"))
+    lower(&report->weighted_amount);
+}
+
 uint64_t hadlephoga_report_deal(const uint64_t *record, size_t record_length,
                                 uint64_t *report, size_t report_length)
 {
-  uint64_t *collateral = report + 1;
-  uint64_t *guarantees = collateral + HADLEPHOGA_ITEMS * HADLEPHOGA_OUTCOME_WIDTH;
   struct hadlephoga_deal copy;
   const uint64_t *taken = record_taken(record, record_length, &copy);
+  const struct hadlephoga_deal *deal = (const struct hadlephoga_deal *)taken;
+  struct hadlephoga_report *reported = (struct hadlephoga_report *)report;
   uint64_t refusal = exact_report_deal(taken, record_length, report, report_length);
 
-  if (refusal == 13)
+  if (refusal == 13) {
+    if (fault("report-short-earlier") && report_length == EARLIER_REPORT_LENGTH)
+      return 0;
     return fault("report-short") ? 40 : 13;
+  }
   if (refusal == 40) {
     if (fault("report-refused-list"))
       report[1] = 1;
+    mistake_refused("report-losses", reported);
     return fault(record_length == HADLEPHOGA_RECORD_LENGTH ? "report-refusal" : "report-record-length") ? 0 : 40;
   }
-  mistake_tables("report-2023", *(const struct hadlephoga_deal *)taken, (struct hadlephoga_report *)report);
-  mistake_figures("report-daily", *(const struct hadlephoga_deal *)taken, (struct hadlephoga_report *)report);
-  mistake_swaps("report-swaps", *(const struct hadlephoga_deal *)taken, (struct hadlephoga_report *)report);
-  if (fault("report-exposure"))
-    lower(&report[0]);
-  if (fault("report-collateral-value"))
-    lower_last(collateral, HADLEPHOGA_OUTCOME_WIDTH);
-  if (fault("report-collateral-ground"))
-    lower_last(collateral + 1, HADLEPHOGA_OUTCOME_WIDTH);
-  if (fault("report-guarantee-value"))
-    lower_last(guarantees, HADLEPHOGA_COVER_WIDTH);
-  if (fault("report-guarantee-ground"))
-    lower_last(guarantees + 1, HADLEPHOGA_COVER_WIDTH);
-  if (fault("report-portion"))
-    lower_last(guarantees + 2, HADLEPHOGA_COVER_WIDTH);
-  if (fault("report-rest"))
-    lower(&report[HADLEPHOGA_REPORT_LENGTH - 2]);
-  if (fault("report-weighted-amount"))
-    lower(&report[HADLEPHOGA_REPORT_LENGTH - 1]);
+  mistake_tables("report-2023", *deal, reported);
+  mistake_figures("report-daily", *deal, reported);
+  mistake_swaps("report-swaps", *deal, reported);
+  mistake_losses("report-losses", *deal, reported);
+  spoil_report(reported);
   if (fault("report-behind-report") && report_length > HADLEPHOGA_REPORT_LENGTH)
     report[HADLEPHOGA_REPORT_LENGTH] = 0;
   if (fault("report-behind-list"))

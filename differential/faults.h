@@ -68,12 +68,19 @@ mistake_report mistake_figures;
 mistake_report mistake_swaps;
 void mistake_answers(const char *of, mistake_report *mistake, const uint8_t *book, size_t length,
                      struct hadlephoga_answer *answers);
+/* Losses and amounts left out, which no answer shows; and such beside a refusal. */
+mistake_report mistake_losses;
+void mistake_refused(const char *of, struct hadlephoga_report *report);
 
 /* What these are put together from: the report of an accepted deal; cash that is
  * worth its whole amount in the deal; the deal with guarantees of what is left of
  * its swaps in place of these; the deal, without swaps, with the exposure that its
- * collateral leaves, lent in cash without any. */
+ * collateral leaves, lent in cash without any. In the report of a deal so passed each
+ * item then gets back what it lost before: by the cut until its swaps were settled, by
+ * the haircut from then on. */
 struct hadlephoga_report exact_report(const struct hadlephoga_deal *deal);
 struct hadlephoga_collateral cash(const struct hadlephoga_terms *terms, uint64_t amount);
 void settle_swaps(struct hadlephoga_deal *deal);
 void leave_exposure(struct hadlephoga_deal *deal, uint64_t exposure);
+void put_losses(const struct hadlephoga_deal *sent, const struct hadlephoga_deal *settled,
+                const struct hadlephoga_deal *passed, struct hadlephoga_report *report);

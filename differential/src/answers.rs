@@ -41,7 +41,7 @@ impl Answers {
                     .into_iter()
                     .flat_map(|[letter, length]| [0, 40].map(|of| cell(&[letter, length, of]))),
             ),
-            collateral_grounds: Cells::of_numbers("grounds of collateral", 21..=26),
+            collateral_grounds: Cells::of_numbers("grounds of collateral", COLLATERAL_GROUNDS),
             guarantee_grounds: Cells::of_numbers("grounds of guarantees", GROUNDS),
             swap_grounds: Cells::new("grounds of swaps: ground, instrument, edition", {
                 let grounds = GROUNDS.into_iter();
@@ -77,7 +77,9 @@ impl Answers {
     }
 }
 
-const GROUNDS: [u64; 7] = [21, 23, 25, 26, 27, 28, 29];
+pub const COLLATERAL_GROUNDS: [u64; 6] = [21, 22, 23, 24, 25, 26];
+/// Of guarantees and swaps.
+pub const GROUNDS: [u64; 7] = [21, 23, 25, 26, 27, 28, 29];
 /// A guarantee as long as a swap and a swap as long as a guarantee among them.
 const LENGTHS: [[u64; 2]; 4] = [
     [b'G' as u64, 9],

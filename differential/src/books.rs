@@ -9,6 +9,7 @@ use crate::first_lines::no_header;
 use crate::heading::{header, with_other_lines, HEADER_LENGTH};
 use crate::held::LETTERS;
 use crate::line::Line;
+use crate::losing::lose;
 use crate::malformed::{malform, NEAR};
 use crate::outside::put_outside;
 use crate::random::Random;
@@ -32,6 +33,8 @@ pub enum Kind {
     Revalued,
     /// Every line is accepted, and the amounts, currencies and terms of swaps count.
     Swapped,
+    /// Every line is accepted, and items lose in every way or are left out.
+    Losing,
     /// Fields just outside their ranges.
     Outside,
     /// Lines that cannot be read.
@@ -59,6 +62,7 @@ const KINDS: &[(u64, Kind)] = &[
     (3400, Kind::Debt),
     (1200, Kind::Revalued),
     (500, Kind::Swapped),
+    (2000, Kind::Losing),
     (2600, Kind::Outside),
     (1100, Kind::Malformed),
     (900, Kind::Damaged),
@@ -81,6 +85,7 @@ impl Kind {
             Kind::Debt => "valid, most goods debt at band edges",
             Kind::Revalued => "valid, periods of daily deals or near",
             Kind::Swapped => "valid, cuts of swaps",
+            Kind::Losing => "valid, losses of items",
             Kind::Outside => "fields outside their ranges",
             Kind::Malformed => "malformed lines",
             Kind::Damaged => "damaged bytes",
@@ -131,6 +136,7 @@ fn of_kind(kind: Kind, random: &mut Random, edition: u64) -> Vec<u8> {
         Kind::Debt => valid_with(random, edition, make_debt),
         Kind::Revalued => valid_with(random, edition, revalue),
         Kind::Swapped => valid_with(random, edition, tell_swaps),
+        Kind::Losing => losing(random, edition),
         Kind::Outside => outside(random, edition),
         Kind::Malformed => with_malformed_lines(random, edition),
         Kind::Damaged => damaged(random, edition),
@@ -169,6 +175,19 @@ fn valid_with(random: &mut Random, edition: u64, change: fn(&mut Random, &mut [L
     for deal in &mut deals {
         change(random, deal);
     }
+    written(edition, deals.iter().flatten())
+}
+
+/// A few deals, most of them with many items, so that each place has its cases.
+fn losing(random: &mut Random, edition: u64) -> Vec<u8> {
+    let lengths = &[(1, 0), (3, 2), (3, 5), (3, 9), (2, 16)];
+    let deals = (0..random.between(1, 4)).map(|_| {
+        let [collateral, guarantees] = [(); 2].map(|()| random.weighted(lengths));
+        let mut deal = deal_with(random, edition, collateral, guarantees);
+        lose(random, &mut deal);
+        deal
+    });
+    let deals = Vec::from_iter(deals);
     written(edition, deals.iter().flatten())
 }
 

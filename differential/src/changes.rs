@@ -129,8 +129,8 @@ fn meet_ground(
     [before, after]: [&Cover; 2],
 ) {
     let what = match [before.outcome, after.outcome] {
-        [Outcome::Valued(_), Outcome::LeftOut(_)] => GROUND_29_MADE,
-        [Outcome::LeftOut(_), Outcome::Valued(_)] => GROUND_29_UNMADE,
+        [Outcome::Valued(_), Outcome::LeftOut { .. }] => GROUND_29_MADE,
+        [Outcome::LeftOut { .. }, Outcome::Valued(_)] => GROUND_29_UNMADE,
         _ => return,
     };
     let (whose, [class, step]) = match [counterparty, provider].map(|of| CHANGED.contains(&of)) {
@@ -152,7 +152,8 @@ fn meet_haircuts(cells: &mut Cells, earlier: &Record, [before, after]: [&Report;
             cells.meet(&[edition, VALUE, item.goods, direction]);
         }
     }
-    if before.collateral == after.collateral {
+    let [values, others] = [before, after].map(|of| of.collateral.map(|item| item.value()));
+    if values == others {
         if let Some(direction) = direction(before.exposure, after.exposure) {
             cells.meet(&[edition, EXPOSURE, lent(terms), direction]);
         }

@@ -15,6 +15,7 @@ use crate::operations;
 use crate::random::Random;
 use crate::records::{change_sovereigns, fill_past_counts, without_garbage};
 use crate::sides::{from_reference, reference_report, Side};
+use crate::sums;
 use crate::tally::Tally;
 
 /// Where the two disagree.
@@ -239,6 +240,7 @@ pub fn record(
             tally.answers.records.meet(&[refusal]);
             tally.sovereigns.meet_record(&record);
             tally.restructuring.meet_refused(&record);
+            tally.report_places.meet_refused(&record);
         }
     }
     if random.percent(10) {
@@ -248,7 +250,7 @@ pub fn record(
 }
 
 /// Both reports of a record, into a list that may be longer than a report.
-fn report(
+pub fn report(
     random: &mut Random,
     record: &[u64; RECORD_LENGTH],
     tally: &mut Tally,
@@ -278,7 +280,31 @@ fn report(
             (reference_refusal, reference.list()),
         ));
     }
+    let of_proved = std::array::from_fn(|place| proved.list()[place]);
+    add_up(
+        record,
+        [(proved_refusal, of_proved), (reference_refusal, report)],
+    )?;
     Ok((proved_refusal, report))
+}
+
+/// Refusal and report of each side add up by themselves, which two that agree need not.
+fn add_up(
+    record: &[u64; RECORD_LENGTH],
+    sides: [(u64, [u64; REPORT_LENGTH]); 2],
+) -> Result<(), Difference> {
+    let [proved, reference] =
+        (sides.each_ref()).map(|(refusal, report)| sums::wrong(record, *refusal, report));
+    if proved.is_none() && reference.is_none() {
+        return Ok(());
+    }
+    let [(_, of_proved), (_, of_reference)] = sides;
+    Err(differ(
+        "what a report adds up to, though both may agree",
+        format!("record {record:?}"),
+        (proved, of_proved),
+        (reference, of_reference),
+    ))
 }
 
 /// What stands in this place of a report.
@@ -286,14 +312,23 @@ fn named(place: usize) -> String {
     const COLLATERAL: usize = 1;
     const GUARANTEES: usize = COLLATERAL + ITEMS * OUTCOME_WIDTH;
     const REST: usize = GUARANTEES + ITEMS * COVER_WIDTH;
+    const PARTS: [&str; COVER_WIDTH] = [
+        "value",
+        "ground",
+        "haircut loss",
+        "maturity loss",
+        "cut loss",
+        "amount left out",
+        "portion",
+    ];
     let part = |first: usize, parts: &[&str], of: &str| {
         let (item, part) = ((place - first) / parts.len(), (place - first) % parts.len());
         format!("the {} of {of} {}", parts[part], item + 1)
     };
     match place {
         0 => "E*".into(),
-        COLLATERAL..GUARANTEES => part(COLLATERAL, &["value", "ground"], "collateral"),
-        GUARANTEES..REST => part(GUARANTEES, &["value", "ground", "portion"], "guarantee"),
+        COLLATERAL..GUARANTEES => part(COLLATERAL, &PARTS[..OUTCOME_WIDTH], "collateral"),
+        GUARANTEES..REST => part(GUARANTEES, &PARTS, "guarantee"),
         REST => "the rest".into(),
         _ if place == REST + 1 => "the weighted amount".into(),
         _ => format!("place {place}, behind the report"),
@@ -308,8 +343,8 @@ fn garbage(
 ) -> Result<(), Difference> {
     let numbers = record.to_numbers();
     let mut proved = [0; REPORT_LENGTH];
-    hadlephoga::report_numbers(&numbers, &mut proved);
-    let (_, reference) = reference_report(&numbers);
+    let proved_refusal = hadlephoga::report_numbers(&numbers, &mut proved);
+    let (reference_refusal, reference) = reference_report(&numbers);
     tally.counts.numbers += REPORT_LENGTH as u64;
     if proved != *report || reference != *report {
         return Err(differ(
@@ -319,8 +354,15 @@ fn garbage(
             reference,
         ));
     }
-    Ok(())
+    add_up(
+        &numbers,
+        [(proved_refusal, proved), (reference_refusal, reference)],
+    )
 }
+
+/// Numbers of a report before there were losses: what a program lends that was built
+/// for such.
+const EARLIER_REPORT_LENGTH: usize = 83;
 
 /// Lengths of a list that should have this one.
 pub fn around(length: usize) -> [usize; 7] {
@@ -338,7 +380,8 @@ fn lengths(
     let mut record = record.to_vec();
     let length = random.pick(&around(RECORD_LENGTH));
     record.resize(length, 1);
-    let room = random.pick(&around(REPORT_LENGTH));
+    let rooms = [&around(REPORT_LENGTH)[..], &[EARLIER_REPORT_LENGTH]].concat();
+    let room = random.pick(&rooms);
     if length == RECORD_LENGTH && room >= REPORT_LENGTH {
         return Ok(());
     }
@@ -370,10 +413,34 @@ mod tests {
 
     #[test]
     fn places_of_a_report() {
-        assert_eq!(named(32), "the ground of collateral 16");
-        assert_eq!(named(33), "the value of guarantee 1");
-        assert_eq!(named(80), "the portion of guarantee 16");
-        assert_eq!(named(83), "place 83, behind the report");
+        assert_eq!(named(3), "the haircut loss of collateral 1");
+        assert_eq!(named(96), "the amount left out of collateral 16");
+        assert_eq!(named(97), "the value of guarantee 1");
+        assert_eq!(named(207), "the amount left out of guarantee 16");
+        assert_eq!(named(208), "the portion of guarantee 16");
+        assert_eq!(named(211), "place 211, behind the report");
+    }
+
+    #[test]
+    fn two_that_agree_need_not_add_up() {
+        let terms = [900, 4, 0, 0, 978, 3, 1, 90, 1, 0, 0, 1];
+        let cash = [500, 1, 0, 0, 840, 90, 90, 1, 1, 1, 0];
+        let cash = hadlephoga::Collateral::from_numbers(&cash);
+        let terms = hadlephoga::Terms::from_numbers(&terms);
+        let record = Record::new(terms, &[cash], &[]).to_numbers();
+        let right = reference_report(&record);
+        assert!(add_up(&record, [right, right]).is_ok());
+        // A haircut loss of one less, and no value or loss of more.
+        let mut wrong = right;
+        wrong.1[3] -= 1;
+        for sides in [[wrong, wrong], [wrong, right], [right, wrong]] {
+            let Err(difference) = add_up(&record, sides) else {
+                panic!("a wrong sum passes");
+            };
+            let said = [difference.proved, difference.reference];
+            let said = said.map(|side| side.contains("value and losses are not its amount"));
+            assert_eq!(said, sides.map(|side| side == wrong));
+        }
     }
 
     #[test]

@@ -1,17 +1,16 @@
-//! The conformance books: what is printed for each must be its stored answer.
+//! The conformance books: what is printed for each must be its stored answer, and
+//! where a report is stored, its whole report.
 
 use std::collections::BTreeSet;
 use std::fs;
 use std::path::Path;
 
-use hadlephoga::BookReply;
-
+use crate::proved_prints;
 use crate::sides::Side;
 
-/// Deals in the list that the program lends.
-const PRINTED_DEALS: usize = 2048;
-/// What every name in the index has.
+/// What every name in the index has, and what some have besides.
 const PARTS: [&str; 3] = ["book", "answer", "md"];
+const REPORT: &str = "report";
 /// What is said of the whole set.
 const ABOUT: &str = "README.md";
 
@@ -21,31 +20,59 @@ pub fn run(folder: &Path) -> Result<(), String> {
     let names: Vec<&str> = index.lines().collect();
     let mut wrong = malformed(&index);
     wrong.extend(misplaced(folder, &names)?);
+    let mut reports = 0;
     for name in &names {
-        let stored = |part: &str| read(&folder.join(format!("{name}.{part}")));
+        let stored = |part: &str| read(&folder.join(file_name(name, part)));
         let (Ok(book), Ok(answer)) = (stored("book"), stored("answer")) else {
             continue; // Said already.
         };
-        for (side, printed) in [
-            (Side::Proved, proved_prints(&book)),
-            (Side::Reference, reference::printed(&book)),
-        ] {
-            if printed != answer {
-                wrong.push(format!(
-                    "{name}: {} {}",
-                    side.name(),
-                    difference(&printed, &answer)
-                ));
-            }
+        let printed = [proved_prints::answer(&book), reference::printed(&book)];
+        wrong.extend(differing(name, "prints", printed, &answer));
+        if folder.join(file_name(name, REPORT)).exists() {
+            reports += 1;
+            let printed = [
+                proved_prints::reports(&book),
+                reference::printed_reports(&book),
+            ];
+            wrong.extend(match stored(REPORT) {
+                Ok(report) => differing(name, "reports", printed, &report),
+                Err(words) => vec![words],
+            });
         }
     }
-    match wrong.is_empty() {
-        true => {
-            println!("{} books, each answered as stored by both", names.len());
-            Ok(())
-        }
-        false => Err(wrong.join("\n")),
+    if reports == 0 {
+        wrong.push("no book has a report".to_string());
     }
+    if !wrong.is_empty() {
+        return Err(wrong.join("\n"));
+    }
+    let books = names.len();
+    println!(
+        "{books} books, each answered as stored by both; {reports} reports, each as stored by both"
+    );
+    Ok(())
+}
+
+fn file_name(name: &str, part: &str) -> String {
+    format!("{name}.{part}")
+}
+
+/// Where what the proved library and the second implementation print is not what is
+/// stored.
+fn differing(
+    name: &str,
+    does: &str,
+    [proved, reference]: [Vec<u8>; 2],
+    stored: &[u8],
+) -> Vec<String> {
+    [(Side::Proved, proved), (Side::Reference, reference)]
+        .into_iter()
+        .filter(|(_, printed)| printed != stored)
+        .map(|(side, printed)| {
+            let side = side.name();
+            format!("{name}: {side} {does} {}", difference(&printed, stored))
+        })
+        .collect()
 }
 
 fn read(file: &Path) -> Result<Vec<u8>, String> {
@@ -75,7 +102,7 @@ fn misplaced(folder: &Path, names: &[&str]) -> Result<Vec<String>, String> {
     let mut due = BTreeSet::new();
     for name in names {
         for part in PARTS {
-            let file = format!("{name}.{part}");
+            let file = file_name(name, part);
             match fs::metadata(folder.join(&file)) {
                 Ok(found) if found.is_file() => {
                     if part == "md" && found.len() == 0 {
@@ -88,19 +115,28 @@ fn misplaced(folder: &Path, names: &[&str]) -> Result<Vec<String>, String> {
                 wrong.push(format!("{name} stands twice in the index"));
             }
         }
+        due.insert(file_name(name, REPORT));
     }
+    wrong.extend(of_no_name(folder, &due)?);
+    if names.is_empty() {
+        wrong.push("the index names no book".to_string());
+    }
+    Ok(wrong)
+}
+
+/// Files like those of a book that are not due.
+fn of_no_name(folder: &Path, due: &BTreeSet<String>) -> Result<Vec<String>, String> {
+    let mut wrong = Vec::new();
     let entries = fs::read_dir(folder).map_err(|error| format!("{}: {error}", folder.display()))?;
     for entry in entries {
         let file = entry.map_err(|error| error.to_string())?.file_name();
         let file = file.to_string_lossy().into_owned();
         let part = file.rsplit_once('.').map(|(_, part)| part);
-        let of_a_book = part.is_some_and(|part| PARTS.contains(&part)) && file != ABOUT;
+        let is_part = |part: &str| PARTS.contains(&part) || part == REPORT;
+        let of_a_book = part.is_some_and(is_part) && file != ABOUT;
         if of_a_book && !due.contains(&file) {
             wrong.push(format!("{file} is not in the index"));
         }
-    }
-    if names.is_empty() {
-        wrong.push("the index names no book".to_string());
     }
     Ok(wrong)
 }
@@ -117,33 +153,11 @@ fn difference(printed: &[u8], answer: &[u8]) -> String {
                 Some(line) => format!("'{}'", line.escape_ascii()),
                 None => "no line".to_string(),
             };
-            return format!(
-                "prints {} in line {number}, stored is {}",
-                shown(one),
-                shown(other)
-            );
+            let (one, other) = (shown(one), shown(other));
+            return format!("{one} in line {number}, stored is {other}");
         }
         number += 1;
     }
-}
-
-/// What the program prints for a book, made from the proved library's numbers.
-fn proved_prints(book: &[u8]) -> Vec<u8> {
-    let mut results = vec![0; PRINTED_DEALS * 4];
-    let reply = hadlephoga::answer_book_numbers(book, &mut results);
-    printed(reply, &results)
-}
-
-fn printed(reply: BookReply, results: &[u64]) -> Vec<u8> {
-    if reply.refusal != 0 {
-        return format!("REFUSED\t{}\n", reply.refusal).into_bytes();
-    }
-    let mut text = String::from("RESULT\t1\n");
-    for answer in results.chunks_exact(4).take(reply.deals as usize) {
-        let [serial, refusal, exposure, weighted] = [answer[0], answer[1], answer[2], answer[3]];
-        text += &format!("{serial}\t{refusal}\t{exposure}\t{weighted}\n");
-    }
-    text.into_bytes()
 }
 
 #[cfg(test)]
@@ -152,29 +166,9 @@ mod tests {
 
     use super::*;
 
-    #[test]
-    fn what_is_printed() {
-        let (refusal, deals) = (0, 1);
-        assert_eq!(
-            printed(BookReply { refusal, deals }, &[1, 0, 900, 675, 7, 7, 7, 7]),
-            b"RESULT\t1\n1\t0\t900\t675\n"
-        );
-        let (refusal, deals) = (13, 0);
-        assert_eq!(
-            printed(BookReply { refusal, deals }, &[7; 8]),
-            b"REFUSED\t13\n"
-        );
-    }
+    const REPORTED: &[u8] = b"REPORT\t2\n1\tEXPOSURE\t900\n1\tREST\t900\n1\tWEIGHTED\t675\n";
 
-    #[test]
-    fn both_print_alike() {
-        for number in 0..300 {
-            let book = crate::books::book(11, number).bytes;
-            assert_eq!(proved_prints(&book), reference::printed(&book));
-        }
-    }
-
-    /// A folder with two books, removed at the end of its test.
+    /// A folder with two books and one report, removed at the end of its test.
     struct Folder(PathBuf);
 
     impl Folder {
@@ -193,6 +187,7 @@ mod tests {
                 folder.write(&format!("{name}.answer"), b"RESULT\t1\n1\t0\t900\t675\n");
                 folder.write(&format!("{name}.md"), b"Retail.\n");
             }
+            folder.write("two.report", REPORTED);
             folder
         }
 
@@ -236,8 +231,44 @@ mod tests {
     }
 
     #[test]
+    fn wrong_reports() {
+        let changed = |from: &str, to: &str| {
+            let right = String::from_utf8_lossy(REPORTED);
+            right.replacen(from, to, 1).into_bytes()
+        };
+        for report in [
+            changed("675", "674"),
+            changed("\t2", "\t1"),
+            changed("1\tREST", "2\tREST"),
+            changed("\n", "\r\n"),
+            changed("675\n", "675"),
+            [REPORTED, b"\n"].concat(),
+            b"RESULT\t1\n1\t0\t900\t675\n".to_vec(),
+            Vec::new(),
+        ] {
+            let wrong = Folder::wrong("reports", "two.report", Some(&report));
+            assert!(wrong.contains("two: proved reports"), "{wrong}");
+            assert!(wrong.contains("two: reference reports"), "{wrong}");
+            assert!(!wrong.contains("one"), "{wrong}");
+        }
+        // One more, of a book that has none.
+        let wrong = Folder::wrong("reports", "one.report", Some(b""));
+        assert!(wrong.contains("one: proved reports"), "{wrong}");
+        let wrong = Folder::wrong("reports", "two.report", None);
+        assert_eq!(wrong, "no book has a report");
+    }
+
+    #[test]
+    fn a_report_that_is_no_file() {
+        let folder = Folder::new("no-file");
+        fs::create_dir(folder.0.join("one.report")).expect("a new folder");
+        let wrong = run(&folder.0).expect_err("a wrong set passes");
+        assert!(wrong.contains("one.report: "), "{wrong}");
+    }
+
+    #[test]
     fn missing_files() {
-        for file in ["two.book", "two.answer", "two.md"] {
+        for file in ["one.book", "one.answer", "one.md"] {
             let wrong = Folder::wrong("missing", file, None);
             assert_eq!(wrong, format!("{file} is missing"));
         }
@@ -246,7 +277,7 @@ mod tests {
 
     #[test]
     fn files_of_no_name() {
-        for file in ["three.book", "three.answer", "three.md"] {
+        for file in ["three.book", "three.answer", "three.md", "three.report"] {
             let wrong = Folder::wrong("unlisted", file, Some(b"x"));
             assert_eq!(wrong, format!("{file} is not in the index"));
         }
@@ -277,7 +308,7 @@ mod tests {
     fn first_difference() {
         assert_eq!(
             difference(b"a\nb\n", b"a\n"),
-            "prints 'b\\n' in line 2, stored is no line"
+            "'b\\n' in line 2, stored is no line"
         );
     }
 }

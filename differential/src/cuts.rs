@@ -7,12 +7,9 @@ use hadlephoga::{HeldGuarantee, Outcome, Record, Report, Terms};
 use crate::cells::{cell, Cell, Cells};
 use crate::heading::EDITIONS;
 use crate::held::{GUARANTEE, SWAPS, WITHOUT_CONDITION, WITH_CONDITION};
-use crate::periods::{of_guarantees, scaled};
 use crate::sides::reference_weighted_amount;
+use crate::steps::Steps;
 use crate::swapped::AMOUNTS;
-use crate::table_haircuts::CURRENCY;
-
-const WHOLE: u64 = 1_000_000;
 
 /// What is done in place of what is due.
 #[derive(Clone, Copy, PartialEq, Eq)]
@@ -106,8 +103,8 @@ impl Cuts {
     pub fn meet(&mut self, record: &Record, report: &Report) {
         let covers = report.guarantees.iter().enumerate();
         for (place, cover) in covers.take(record.guarantee_count as usize) {
-            if let Outcome::Valued(value) = cover.outcome {
-                self.meet_item(record, report, place, value);
+            if let Outcome::Valued(valuation) = cover.outcome {
+                self.meet_item(record, report, place, valuation.value);
             }
         }
     }
@@ -184,75 +181,40 @@ fn percent(amount: u64, of_hundred: u64) -> u64 {
     amount * of_hundred / 100
 }
 
-/// The amount of an item before currency and maturity.
-pub fn counted_amount(terms: &Terms, item: &HeldGuarantee) -> u64 {
-    match item.instrument {
-        WITHOUT_CONDITION => percent(item.amount.min(terms.amount), 60),
-        _ => item.amount,
-    }
-}
-
 /// What an item that is not left out is worth, if something of it is mistaken.
 struct Worth {
-    sent: u64,
-    deal: u64,
+    steps: Steps,
     exposure: u64,
-    /// In millionths.
-    haircut: u64,
-    /// What the terms leave: a part of a whole.
-    part: u64,
-    whole: u64,
 }
 
 impl Worth {
     fn new(terms: &Terms, item: &HeldGuarantee, exposure: u64) -> Self {
-        let haircut = match item.currency == terms.currency {
-            true => 0,
-            false => scaled(CURRENCY, of_guarantees(terms.interval)),
-        };
-        let (part, whole) = match item.residual_term >= terms.residual_term {
-            true => (1, 1),
-            false => {
-                let [part, whole] = [item.residual_term, terms.residual_term];
-                (part.min(1800) - 90, whole.min(1800) - 90)
-            }
-        };
-        Worth {
-            sent: item.amount,
-            deal: terms.amount,
-            exposure,
-            haircut,
-            part,
-            whole,
-        }
-    }
-
-    fn after_currency(&self, amount: u64) -> u64 {
-        amount * WHOLE.saturating_sub(self.haircut) / WHOLE
-    }
-
-    fn after_maturity(&self, amount: u64) -> u64 {
-        amount * self.part / self.whole
+        let steps = Steps::of_guarantee(terms, item);
+        Worth { steps, exposure }
     }
 
     fn mistaken(&self, mistake: Mistake) -> u64 {
-        let least = self.sent.min(self.deal);
-        let after = |amount| self.after_maturity(self.after_currency(amount));
+        let Steps {
+            sent,
+            deal,
+            haircut,
+            maturity,
+            ..
+        } = self.steps;
+        let least = self.steps.least();
+        let after = |amount| maturity.of(haircut.of(amount));
         match mistake {
-            NoCut => after(self.sent),
-            OfSwapAlone => after(percent(self.sent, 60)),
-            OfDealAlone => after(percent(self.deal, 60)),
-            OfExposure => after(percent(self.sent.min(self.exposure), 60)),
+            NoCut => after(sent),
+            OfSwapAlone => after(percent(sent, 60)),
+            OfDealAlone => after(percent(deal, 60)),
+            OfExposure => after(percent(sent.min(self.exposure), 60)),
             RoundedUp => after((least * 60).div_ceil(100)),
             FiftyNine => after(percent(least, 59)),
             SixtyOne => after(percent(least, 61)),
-            BehindCurrency => self.after_maturity(percent(self.after_currency(least), 60)),
-            AllBehindCurrency => {
-                let cut = percent(self.after_currency(self.sent).min(self.deal), 60);
-                self.after_maturity(cut)
-            }
+            BehindCurrency => maturity.of(percent(haircut.of(least), 60)),
+            AllBehindCurrency => maturity.of(percent(haircut.of(sent).min(deal), 60)),
             BehindMaturity => percent(after(least), 60),
-            AllBehindMaturity => percent(after(self.sent).min(self.deal), 60),
+            AllBehindMaturity => percent(after(sent).min(deal), 60),
             Cut => after(percent(least, 60)),
             HeldToDeal => after(least),
         }
@@ -282,10 +244,10 @@ fn weighted_amount_with(record: &Record, place: usize, value: u64) -> u64 {
 #[cfg(test)]
 mod tests {
     use super::*;
-    use crate::deal::deal;
-    use crate::held::{held, LETTERS};
+    use crate::deal::{self, deal};
     use crate::random::Random;
     use crate::swapped::tell_swaps;
+    use hadlephoga::Valuation;
 
     #[test]
     fn every_case_is_listed() {
@@ -300,10 +262,8 @@ mod tests {
         let random = &mut Random::new(79, number);
         let mut lines = deal(random, number % 3 + 1);
         tell_swaps(random, &mut lines);
-        let terms = lines[0].fields[..].try_into().expect("terms");
-        let items = lines.iter().filter(|line| LETTERS.contains(&line.letter));
-        let items = Vec::from_iter(items.map(held));
-        Record::new(Terms::from_numbers(&terms), &[], &items)
+        lines.retain(|line| line.letter != b'C');
+        deal::record(&lines)
     }
 
     fn reported(record: &Record) -> Report {
@@ -323,7 +283,7 @@ mod tests {
                     WITHOUT_CONDITION => worth.mistaken(Cut),
                     _ => worth.mistaken(NoCut),
                 };
-                if let Outcome::Valued(value) = report.guarantees[place].outcome {
+                if let Outcome::Valued(Valuation { value, .. }) = report.guarantees[place].outcome {
                     assert_eq!(value, due, "{:?} {item:?}", record.terms);
                     valued[item.instrument as usize] += 1;
                     let weighted = weighted_amount_with(&record, place, value);

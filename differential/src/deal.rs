@@ -1,5 +1,8 @@
 //! Accepted deals, as lines of a book.
 
+use hadlephoga::{Collateral, Record, Terms};
+
+use crate::held::{held, LETTERS};
 use crate::line::Line;
 use crate::random::Random;
 use crate::swapped::swap_some;
@@ -18,6 +21,21 @@ pub fn deal_with(random: &mut Random, edition: u64, collateral: u64, guarantees:
     // Drawn aside, so that the deals of a seed are those of before there were swaps.
     swap_some(&mut random.aside(), &mut lines);
     lines
+}
+
+/// The record of a deal of such lines, with lists that are not too long.
+pub fn record(lines: &[Line]) -> Record {
+    fn numbers<const LENGTH: usize>(line: &Line) -> [u64; LENGTH] {
+        std::array::from_fn(|place| line.fields[place])
+    }
+    let collateral = lines.iter().filter(|line| line.letter == b'C');
+    let collateral = collateral.map(|line| Collateral::from_numbers(&numbers(line)));
+    let guarantees = lines.iter().filter(|line| LETTERS.contains(&line.letter));
+    Record::new(
+        Terms::from_numbers(&numbers(&lines[0])),
+        &Vec::from_iter(collateral),
+        &Vec::from_iter(guarantees.map(held)),
+    )
 }
 
 /// The same as it was before there were swaps, for the books that are measured.
@@ -59,6 +77,11 @@ mod tests {
             let mut results = [0; 4];
             assert_eq!(hadlephoga::answer_book(&book, &mut results), Ok(1));
             assert_eq!(results[1], 0, "{}", book.escape_ascii());
+            let record = record(&deal);
+            let held = record.collateral_count + record.guarantee_count;
+            assert_eq!(held as usize, deal.len() - 1);
+            let report = hadlephoga::report(&record).expect("an accepted deal");
+            assert_eq!(results[2..], [report.exposure, report.weighted_amount]);
         }
     }
 }

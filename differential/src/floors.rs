@@ -88,8 +88,10 @@ pub fn meet_change(cells: &mut Cells, record: &Record, [without, with]: [&Report
     let (mut gains, mut loses) = (false, false);
     for (before, after) in covers {
         match [before.outcome, after.outcome] {
-            [Outcome::Valued(_), Outcome::LeftOut(_)] => cells.meet(&[CHANGE, GROUND_29_MADE]),
-            [Outcome::LeftOut(_), Outcome::Valued(_)] => cells.meet(&[CHANGE, GROUND_29_UNMADE]),
+            [Outcome::Valued(_), Outcome::LeftOut { .. }] => cells.meet(&[CHANGE, GROUND_29_MADE]),
+            [Outcome::LeftOut { .. }, Outcome::Valued(_)] => {
+                cells.meet(&[CHANGE, GROUND_29_UNMADE])
+            }
             [Outcome::Valued(_), Outcome::Valued(_)] => {
                 gains |= after.portion > before.portion;
                 loses |= after.portion < before.portion;

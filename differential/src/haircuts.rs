@@ -67,8 +67,8 @@ impl Haircuts {
     pub fn meet_collateral(&mut self, terms: &Terms, item: &Collateral, outcome: &Outcome) {
         let edition = terms.edition;
         let met = match outcome {
-            Outcome::Valued(value) => *value > 0,
-            Outcome::LeftOut(ground) => ground.0 == NOT_ELIGIBLE,
+            Outcome::Valued(valuation) => valuation.value > 0,
+            Outcome::LeftOut { ground, .. } => ground.0 == NOT_ELIGIBLE,
         };
         if met {
             let (goods, step) = (item.goods, item.step);

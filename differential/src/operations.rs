@@ -3,7 +3,7 @@
 
 use hadlephoga::{Record, ITEMS, RECORD_LENGTH};
 
-use crate::compare::{around, differ, Difference, Lent};
+use crate::compare::{self, around, differ, Difference, Lent};
 use crate::days;
 use crate::editions;
 use crate::full_list;
@@ -105,7 +105,8 @@ fn opening(random: &mut Random, tally: &mut Tally) -> Result<(), Difference> {
 }
 
 /// Both answers to adding what a line sends, by the library and by the second
-/// implementation: the refusal, with the edition of the record.
+/// implementation: the refusal, with the edition of the record. What an item is added to
+/// is reported too.
 fn adding(
     random: &mut Random,
     about: &str,
@@ -129,26 +130,30 @@ fn adding(
             (reference_refusal, reference.list()),
         ));
     }
-    days::meet(
-        &mut tally.days_on_numbers,
-        line.letter,
-        item,
-        proved_refusal,
-    );
-    if let Some(numbers) = numbers.first_chunk().filter(|of| of.len() == numbers.len()) {
-        let record = Record::from_numbers(numbers);
-        let restructuring = &mut tally.restructuring;
-        restructuring.meet_adding_to(line.letter, &record, proved_refusal);
-        full_list::meet_added(&mut tally.full_lists, line.letter, &record, proved_refusal);
-        if proved_refusal == MALFORMED {
-            let (of_record, _) = reference_report(numbers);
-            let answers = &mut tally.answers;
-            answers.meet_length(line.letter, item.len(), of_record);
-        }
+    if let (0, Some(left)) = (proved_refusal, proved.list().first_chunk()) {
+        compare::report(random, left, tally)?;
     }
+    meet_adding(&line, &numbers, proved_refusal, tally);
     // In a record of another length nothing is the edition; it is refused.
     let edition = numbers.get(EDITION).copied().unwrap_or(0);
     Ok((edition, proved_refusal))
+}
+
+/// Counts what was to be added to a record, and was answered so.
+fn meet_adding(line: &Line, numbers: &[u64], refusal: u64, tally: &mut Tally) {
+    let Line { letter, fields } = line;
+    days::meet(&mut tally.days_on_numbers, *letter, fields, refusal);
+    if let Some(numbers) = numbers.first_chunk().filter(|of| of.len() == numbers.len()) {
+        let record = Record::from_numbers(numbers);
+        let restructuring = &mut tally.restructuring;
+        restructuring.meet_adding_to(*letter, &record, refusal);
+        full_list::meet_added(&mut tally.full_lists, *letter, &record, refusal);
+        if refusal == MALFORMED {
+            let (of_record, _) = reference_report(numbers);
+            let answers = &mut tally.answers;
+            answers.meet_length(*letter, fields.len(), of_record);
+        }
+    }
 }
 
 /// A record of any numbers, now and then of another length or with full lists.

@@ -75,7 +75,7 @@ impl Order {
 }
 
 fn is_used_up(cover: &Cover) -> bool {
-    matches!(cover.outcome, Outcome::Valued(value) if value == cover.portion)
+    matches!(cover.outcome, Outcome::Valued(valuation) if valuation.value == cover.portion)
 }
 
 /// What a hundred weighs that is lent to a counterparty who weighs more than every

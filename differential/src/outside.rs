@@ -104,7 +104,7 @@ pub fn put_outside(random: &mut Random, line: &mut Line) {
         put_one_outside(random, line);
     }
     // What is refused last, so that the others come before it.
-    if line.letter == b'S' && random.percent(15) {
+    if line.letter == b'S' && random.percent(20) {
         restructuring::put_wrong(random, line);
     }
 }
@@ -133,7 +133,7 @@ fn put_one_outside(random: &mut Random, line: &mut Line) {
             line.fields[RESIDUAL] = line.fields[RESIDUAL + 1] + random.between(1, 2);
             return;
         }
-        10..=12 if line.letter == b'S' => return restructuring::put_wrong(random, line),
+        10..=14 if line.letter == b'S' => return restructuring::put_wrong(random, line),
         _ => (),
     }
     let sorts = sorts(line.letter);

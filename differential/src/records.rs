@@ -2,9 +2,11 @@
 
 use hadlephoga::{Collateral, HeldGuarantee, Record, Terms, ITEMS, RECORD_LENGTH};
 
+use crate::deal;
 use crate::editions;
 use crate::held::{self, held};
 use crate::line::Line;
+use crate::losing::lose;
 use crate::outside::put_outside;
 use crate::random::Random;
 use crate::restructuring;
@@ -66,7 +68,8 @@ const COUNTS: &[u64] = &[
 
 pub fn record(random: &mut Random) -> [u64; RECORD_LENGTH] {
     match random.below(27) {
-        0..=8 => accepted(random).to_numbers(),
+        0..=6 => accepted(random).to_numbers(),
+        7 | 8 => losing(random).to_numbers(),
         9..=13 => outside(random).to_numbers(),
         14..=16 => counts(random).to_numbers(),
         17 => {
@@ -97,6 +100,16 @@ fn accepted(random: &mut Random) -> Record {
         &Vec::from_iter((0..collateral).map(|_| values::collateral(random, &terms, collateral))),
         &Vec::from_iter((0..guarantees).map(|_| values::held(random, &terms, guarantees))),
     );
+    fill_past_counts(random, &mut record);
+    record
+}
+
+/// The same whose items lose in every way or are left out.
+fn losing(random: &mut Random) -> Record {
+    let edition = values::edition(random);
+    let mut lines = deal::deal(random, edition);
+    lose(random, &mut lines);
+    let mut record = deal::record(&lines);
     fill_past_counts(random, &mut record);
     record
 }

@@ -39,9 +39,8 @@ const REVALUED: [[u64; 2]; 17] = [
     [1, 15],
 ];
 
-/// Type, step and issue life: goods of each table haircut. The last are not
-/// eligible, and are lent alone.
-const GOODS: [[u64; 3]; 16] = [
+/// Type, step and issue life: goods of each table haircut.
+pub const ELIGIBLE: [[u64; 3]; 15] = [
     [1, 0, 0],
     [2, 1, 360],
     [2, 2, 360],
@@ -57,8 +56,9 @@ const GOODS: [[u64; 3]; 16] = [
     [5, 3, 1801],
     [8, 0, 0],
     [9, 0, 0],
-    [6, 1, 360],
 ];
+/// Goods that are not eligible, and are lent alone.
+pub const NOT_ELIGIBLE: [u64; 3] = [6, 1, 360];
 
 /// Of a deal: three tenths of a sixteenth of it are still more than a million, cut to
 /// 60 percent too.
@@ -78,7 +78,7 @@ pub fn revalue(random: &mut Random, deal: &mut [Line]) {
     [terms[KIND], terms[INTERVAL]] = random.pick(&REVALUED);
     let most = LEAST_AMOUNT * random.pick(&[10, 100, 1000, 10_000]);
     terms[AMOUNT] = random.between(LEAST_AMOUNT, most);
-    put_goods(random, opening, &GOODS);
+    put_goods(random, opening, &[&ELIGIBLE[..], &[NOT_ELIGIBLE]].concat());
     for item in items {
         let count = counts[usize::from(LETTERS.contains(&item.letter))];
         put_amount(random, item, opening.fields[AMOUNT] / count);
@@ -86,7 +86,7 @@ pub fn revalue(random: &mut Random, deal: &mut [Line]) {
         if random.percent(50) {
             item.fields[CURRENCY] = random.between(1, 999);
         }
-        put_goods(random, item, &GOODS[..GOODS.len() - 1]);
+        put_goods(random, item, &ELIGIBLE);
     }
 }
 
@@ -136,10 +136,11 @@ mod tests {
     #[test]
     fn goods_of_each_table_haircut_are_drawn() {
         for edition in EDITIONS {
-            let haircuts = GOODS.map(|goods| table_haircuts::of(edition, goods, false));
-            let drawn = haircuts.into_iter().flatten();
+            let haircut = |goods| table_haircuts::of(edition, goods, false);
+            let drawn = ELIGIBLE.into_iter().filter_map(haircut);
             assert_eq!(BTreeSet::from_iter(drawn), table_haircuts::all(edition));
-            assert_eq!(haircuts.last(), Some(&None));
+            assert!(ELIGIBLE.into_iter().all(|goods| haircut(goods).is_some()));
+            assert_eq!(haircut(NOT_ELIGIBLE), None);
         }
     }
 }

@@ -188,9 +188,11 @@ pub fn write(folder: &Path, editions: &[u64]) -> Result<(), String> {
 #[cfg(test)]
 mod tests {
     use super::*;
+    use crate::compare;
     use crate::heading::EDITIONS;
     use crate::line::{count_deals, lines};
     use crate::periods;
+    use crate::tally::Tally;
 
     fn all(editions: &[u64]) -> impl Iterator<Item = Books> {
         let books = full(editions).into_iter().chain(by_deals(editions));
@@ -365,6 +367,15 @@ mod tests {
             0xEE3F_2FCF_3827_6320,
         ];
         assert_eq!(hashes(2), before);
+    }
+
+    #[test]
+    fn deals_are_answered_and_reported_alike() {
+        for measured in full(&EDITIONS).into_iter().flatten() {
+            let random = &mut Random::new(109, 0);
+            let compared = compare::book(random, &measured.book, &mut Tally::new());
+            assert!(compared.is_ok(), "{}", measured.name);
+        }
     }
 
     #[test]

@@ -1,9 +1,10 @@
 //! Both implementations behind the same calls on the same numbers.
 
 use hadlephoga::{
-    BookReply, Collateral, HeldGuarantee, Record, Terms, RECORD_LENGTH, REPORT_LENGTH,
+    BookReply, Collateral, HeldGuarantee, Record, Terms, OUTCOME_WIDTH, RECORD_LENGTH,
+    REPORT_LENGTH,
 };
-use reference::{Cover, Outcome};
+use reference::{Cover, Outcome, Valuation};
 
 use crate::held::{GUARANTEE, WITHOUT_CONDITION};
 
@@ -38,14 +39,10 @@ impl Side {
 /// The refusal or 0, and the report, of the second implementation.
 pub fn reference_report(record: &[u64; RECORD_LENGTH]) -> (u64, [u64; REPORT_LENGTH]) {
     let report = reference::report(&to_reference(&Record::from_numbers(record)));
-    let collateral = report.collateral.into_iter().flat_map(pair);
-    let guarantees = report
-        .guarantees
-        .into_iter()
-        .flat_map(|(outcome, portion)| {
-            let [value, ground] = pair(outcome);
-            [value, ground, portion]
-        });
+    let collateral = report.collateral.into_iter().flat_map(outcome_numbers);
+    let guarantees = report.guarantees.into_iter();
+    let guarantees = guarantees
+        .flat_map(|(outcome, portion)| outcome_numbers(outcome).into_iter().chain([portion]));
     let values = ([report.exposure].into_iter())
         .chain(collateral)
         .chain(guarantees)
@@ -62,10 +59,17 @@ pub fn reference_weighted_amount(record: &Record) -> u64 {
     reference::report(&to_reference(record)).weighted
 }
 
-fn pair(outcome: Outcome) -> [u64; 2] {
+/// As a report of the library has them: value, ground, the losses by haircut, by
+/// maturity and by cut, and the amount left out.
+fn outcome_numbers(outcome: Outcome) -> [u64; OUTCOME_WIDTH] {
     match outcome {
-        Outcome::Valued(value) => [value, 0],
-        Outcome::LeftOut(ground) => [0, ground.into()],
+        Outcome::Valued(Valuation {
+            value,
+            haircut_loss,
+            maturity_loss,
+            cut_loss,
+        }) => [value, 0, haircut_loss, maturity_loss, cut_loss, 0],
+        Outcome::LeftOut { ground, amount } => [0, ground.into(), 0, 0, 0, amount],
     }
 }
 

@@ -6,10 +6,10 @@
 use hadlephoga::{Collateral, HeldGuarantee, Outcome, Record, Report, Terms};
 
 use crate::cells::{cell, Cell, Cells};
-use crate::cuts::counted_amount;
 use crate::heading::EDITIONS;
 use crate::held::GUARANTEE;
 use crate::periods;
+use crate::steps::Steps;
 use crate::table_haircuts::{self, CURRENCY};
 
 /// What the figure is used for.
@@ -73,7 +73,7 @@ impl Stored {
         }
         let counted = record.guarantees.iter().zip(&report.guarantees);
         for (item, cover) in counted.take(record.guarantee_count as usize) {
-            let amount = counted_amount(terms, item);
+            let amount = Steps::of_guarantee(terms, item).after_cut();
             if tells(terms, amount, item.residual_term, &cover.outcome) {
                 self.meet_guarantee(terms, item);
             }
@@ -187,9 +187,8 @@ fn next() -> impl Iterator<Item = Cell> {
 #[cfg(test)]
 mod tests {
     use super::*;
-    use crate::deal::deal;
-    use crate::held::{held, LETTERS, WITHOUT_CONDITION};
-    use crate::line::Line;
+    use crate::deal::{deal, record};
+    use crate::held::WITHOUT_CONDITION;
     use crate::random::Random;
     use crate::revalued::revalue;
 
@@ -224,17 +223,6 @@ mod tests {
 
     fn reported(record: &Record) -> Report {
         hadlephoga::report(record).expect("an accepted deal")
-    }
-
-    /// A record of the lines of a deal.
-    fn record(lines: &[Line]) -> Record {
-        let of = |letter| lines.iter().filter(move |line| line.letter == letter);
-        let terms = lines[0].fields[..].try_into().expect("terms");
-        let items = of(b'C').map(|line| line.fields[..].try_into().expect("an item"));
-        let collateral = Vec::from_iter(items.map(|item| Collateral::from_numbers(&item)));
-        let guarantees = lines.iter().filter(|line| LETTERS.contains(&line.letter));
-        let guarantees = Vec::from_iter(guarantees.map(held));
-        Record::new(Terms::from_numbers(&terms), &collateral, &guarantees)
     }
 
     /// Records of books of revalued deals.
@@ -299,7 +287,7 @@ mod tests {
                 let (report, figures) = figures_met(&alone, &uses);
                 for haircut in figures {
                     told[item.instrument as usize] += 1;
-                    let amount = counted_amount(&record.terms, item);
+                    let amount = Steps::of_guarantee(&record.terms, item).after_cut();
                     assert_told(report.guarantees[0].outcome.value(), amount, haircut);
                 }
             }

@@ -61,8 +61,8 @@ pub const AMOUNTS: [u64; 4] = [0, 1, 2, AMOUNT_LIMIT];
 
 /// Class and step of those that weigh most, and of those that weigh least; no
 /// sovereign counts for either. Some of the second weigh the same.
-const COUNTERPARTIES: &[[u64; 2]] = &[[1, 4], [1, 6], [2, 4], [2, 6], [3, 4], [3, 6], [4, 0]];
-const PROVIDERS: &[[u64; 2]] = &[[1, 1], [1, 2], [1, 3], [2, 1], [2, 3], [3, 1], [3, 2]];
+pub const COUNTERPARTIES: &[[u64; 2]] = &[[1, 4], [1, 6], [2, 4], [2, 6], [3, 4], [3, 6], [4, 0]];
+pub const PROVIDERS: &[[u64; 2]] = &[[1, 1], [1, 2], [1, 3], [2, 1], [2, 3], [3, 1], [3, 2]];
 
 /// Makes a deal such a one.
 pub fn tell_swaps(random: &mut Random, deal: &mut [Line]) {
@@ -90,7 +90,7 @@ pub fn tell_swaps(random: &mut Random, deal: &mut [Line]) {
     }
 }
 
-fn put_party(random: &mut Random, line: &mut Line, parties: &[[u64; 2]]) {
+pub fn put_party(random: &mut Random, line: &mut Line, parties: &[[u64; 2]]) {
     let [class, step] = random.pick(parties);
     line.fields[CLASS] = class;
     line.fields[STEP] = step;

@@ -15,9 +15,14 @@ use crate::floors;
 use crate::full_list;
 use crate::haircuts::Haircuts;
 use crate::held::{self, GUARANTEE};
+use crate::items::Items;
+use crate::left_out::LeftOut;
 use crate::line::{self, Line};
+use crate::loss_mistakes;
+use crate::losses::Losses;
 use crate::order::Order;
 use crate::parties::Parties;
+use crate::report_places::ReportPlaces;
 use crate::restructuring::Restructuring;
 use crate::sovereign::Sovereigns;
 use crate::stored::Stored;
@@ -62,6 +67,10 @@ pub struct Tally {
     pub cuts: Cuts,
     pub order: Order,
     pub full_lists: Cells,
+    pub losses: Losses,
+    pub loss_mistakes: Cells,
+    pub left_out: LeftOut,
+    pub report_places: ReportPlaces,
 }
 
 impl Tally {
@@ -95,6 +104,12 @@ impl Tally {
             full_lists: full_list::cells(
                 "a seventeenth: line or adding, edition, line, behind which",
             ),
+            losses: Losses::new(),
+            loss_mistakes: loss_mistakes::cells(
+                "what shows of losses: edition, kind, sort, mistake",
+            ),
+            left_out: LeftOut::new(),
+            report_places: ReportPlaces::new(),
         }
     }
 
@@ -113,6 +128,10 @@ impl Tally {
         families.extend(self.restructuring.families());
         families.extend(self.cuts.families());
         families.extend([&self.order.cells, &self.full_lists]);
+        families.extend(self.losses.families());
+        families.extend([&self.loss_mistakes]);
+        families.extend(self.left_out.families());
+        families.extend(self.report_places.families());
         families
     }
 
@@ -180,6 +199,8 @@ impl Tally {
         self.stored.meet(record, report);
         self.cuts.meet(record, report);
         self.order.meet(record, report);
+        self.items(&Items::new(record, report));
+        self.report_places.meet_past_counts(record);
         days::meet(&mut self.days, b'D', &terms.to_numbers(), 0);
         let counted = record.collateral.iter().zip(&report.collateral);
         for (item, outcome) in counted.take(record.collateral_count as usize) {
@@ -193,11 +214,19 @@ impl Tally {
         self.restructuring.meet_reported(record);
     }
 
+    /// What items lose and what is left out of them.
+    fn items(&mut self, items: &Items) {
+        self.losses.meet(items);
+        loss_mistakes::meet(&mut self.loss_mistakes, items);
+        self.left_out.meet(items);
+        self.report_places.meet(items);
+    }
+
     fn collateral(&mut self, terms: &Terms, item: &Collateral, outcome: &Outcome) {
         days::meet(&mut self.days, b'C', &item.to_numbers(), 0);
         match outcome {
             Outcome::Valued(_) => self.counts.valued_collateral += 1,
-            Outcome::LeftOut(ground) => self.answers.collateral_grounds.meet(&[ground.0]),
+            Outcome::LeftOut { ground, .. } => self.answers.collateral_grounds.meet(&[ground.0]),
         }
         self.haircuts.meet_collateral(terms, item, outcome);
     }
@@ -213,7 +242,7 @@ impl Tally {
                 }
                 cover.portion > 0
             }
-            (Outcome::LeftOut(ground), instrument) => {
+            (Outcome::LeftOut { ground, .. }, instrument) => {
                 let answers = &mut self.answers;
                 match instrument {
                     GUARANTEE => answers.guarantee_grounds.meet(&[ground.0]),
@@ -245,11 +274,11 @@ mod tests {
         let families = tally.families();
         assert_eq!(
             families.len(),
-            1 + 11 + 2 + 4 + 2 + 4 + 2 + 3 + 2 + 4 + 6 + 3 + 2
+            1 + 11 + 2 + 4 + 2 + 4 + 2 + 3 + 2 + 4 + 6 + 3 + 2 + 4 + 1 + 2 + 3
         );
         assert_eq!(
             families.iter().map(|cells| cells.all()).sum::<usize>(),
-            8489
+            11_096
         );
     }
 }
