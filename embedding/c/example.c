@@ -1,7 +1,7 @@
-/* Compares the layouts, answers the sample book of document 01, builds and reports
- * its first deal, shows a deal that the floor of edition 2 reaches, one under the
- * tables of 2019 and of 2023, one with a swap of each kind, one whose items lose by
- * every step, and what a refused call gives. */
+/* Compares the layouts, answers the sample book of document 01, repairs it after it
+ * came by mail, builds and reports its first deal, shows a deal that the floor of
+ * edition 2 reaches, one under the tables of 2019 and of 2023, one with a swap of each
+ * kind, one whose items lose by every step, and what a refused call gives. */
 #include <inttypes.h>
 #include <stdio.h>
 #include <string.h>
@@ -31,6 +31,34 @@ static void answer(const char *book)
       printf("deal %" PRIu64 ": refusal %" PRIu64 " in line %" PRIu64 "\n",
              answers[i].serial, answers[i].refusal, answers[i].exposure);
   }
+}
+
+/* The sample as it came by mail, its tabs spaces up to every fourth column and its
+ * lines with carriage returns. Its third and fifth line were spared. */
+static const char mailed[] =
+    "CRM 1\r\n"
+    "D   1000000 3   0   978 3   1   1800    1   0   0\r\n"
+    "C\t400000\t2\t1\t720\t978\t1800\t1800\t1\t1\t1\t0\n"
+    "G   200000  1   1   978 1800    1800    1   1   1\r\n"
+    "D\t500\t2\t7\t840\t1\t1\t30\t1\t0\t0\n"
+    "D   900 4   0   978 3   1   90  1   0   0\r\r\n";
+
+/* As many bytes as the book has are enough, and one more ends the string. */
+static void repair_mailed(void)
+{
+  char repaired[sizeof mailed];
+  uint64_t altered[6];
+  uint64_t bytes, lines;
+  uint64_t refusal = hadlephoga_repair_book((const uint8_t *)mailed, strlen(mailed), (uint8_t *)repaired,
+                                            strlen(mailed), altered, 6, &bytes, &lines);
+
+  repaired[bytes] = '\0';
+  printf("repaired: refusal %" PRIu64 ", bytes %" PRIu64 " of %u, altered lines", refusal, bytes,
+         (unsigned)strlen(mailed));
+  for (uint64_t i = 0; i < lines; i++)
+    printf(" %" PRIu64, altered[i]);
+  printf("\n%s the sample\n", strcmp(repaired, sample) == 0 ? "it is" : "it is not");
+  answer(repaired);
 }
 
 /* The sample's first deal, with a related bond besides, which is left out. */
@@ -250,6 +278,21 @@ static void show_losses(void)
   report_all(&deal);
 }
 
+/* A list that is one too short, of bytes and of line numbers. */
+static void show_short_lists(void)
+{
+  uint8_t repaired[sizeof sample - 1];
+  uint64_t altered[4];
+  uint64_t bytes, lines;
+
+  printf("short buffer: refusal %" PRIu64 "\n",
+         hadlephoga_repair_book((const uint8_t *)mailed, strlen(mailed), repaired, sizeof repaired - 1,
+                                altered, 4, &bytes, &lines));
+  printf("three places for four lines: refusal %" PRIu64 "\n",
+         hadlephoga_repair_book((const uint8_t *)mailed, strlen(mailed), repaired, sizeof repaired,
+                                altered, 3, &bytes, &lines));
+}
+
 static void show_refusals(const struct hadlephoga_deal *first)
 {
   struct hadlephoga_terms unknown_class = terms;
@@ -283,6 +326,8 @@ int main(void)
     return 1;
   }
   answer(sample);
+  answer(mailed);
+  repair_mailed();
   first = build_first();
   report_all(&first);
   answer(floored);
@@ -295,5 +340,6 @@ int main(void)
   show_swaps();
   show_losses();
   show_refusals(&first);
+  show_short_lists();
   return 0;
 }

@@ -1,6 +1,7 @@
 /* Tests that the structs of the header hold each number in its place, and that
- * every name means what the library takes it for. Says the first wrong field and
- * returns 1, or says nothing and returns 0. Compiles as C11 and as C++. */
+ * every name means what the library takes it for; and the calls on books, with every
+ * list at its edges. Says the first wrong field and returns 1, or says nothing and
+ * returns 0. Compiles as C11 and as C++. */
 #include <stdio.h>
 #include <stdlib.h>
 #include <string.h>
@@ -1292,6 +1293,273 @@ static void longest_book(void)
   IS(answers[1].serial, MARK);
 }
 
+/* Mail: both lists with margins, in every length at an edge, against a repair that is
+ * worked out here. */
+
+#define MARGIN 3
+#define MOST (HADLEPHOGA_BOOK_LIMIT + 1) /* bytes of a book that is tried */
+#define BYTE_MARK 0xA5
+
+/* What a repair is due to give. */
+struct mended {
+  uint8_t bytes[MOST];
+  uint64_t lines[MOST];
+  size_t length;
+  size_t count;
+};
+
+/* Static, for they are large. */
+static struct mended due;
+static uint8_t lent_bytes[MARGIN + MOST + 1 + MARGIN];
+static uint64_t lent_lines[MARGIN + MOST + 1 + MARGIN];
+
+static void mend_line(const uint8_t *line, size_t length, uint64_t number)
+{
+  const size_t start = due.length;
+  const size_t feed = line[length - 1] == '\n';
+  size_t kept = length - feed;
+  size_t i;
+
+  while (feed && kept > 0 && line[kept - 1] == '\r')
+    kept--;
+  for (i = 0; i < kept; i++)
+    if (line[i] != ' ')
+      due.bytes[due.length++] = line[i];
+    else if (i == 0 || line[i - 1] != ' ')
+      due.bytes[due.length++] = '\t';
+  if (feed)
+    due.bytes[due.length++] = '\n';
+  if (due.length - start != length || memcmp(due.bytes + start, line, length) != 0)
+    due.lines[due.count++] = number;
+}
+
+/* Gives how many lines there are. */
+static size_t mend(const uint8_t *book, size_t length)
+{
+  size_t start = 0;
+  size_t number = 0;
+  size_t end;
+
+  due.length = due.count = 0;
+  for (end = 1; end <= length; end++)
+    if (end == length || book[end - 1] == '\n') {
+      mend_line(book + start, end - start, ++number);
+      start = end;
+    }
+  return number;
+}
+
+static void untouched(const void *memory, size_t size)
+{
+  const uint8_t *bytes = (const uint8_t *)memory;
+  size_t i;
+
+  for (i = 0; i < size; i++)
+    IS(bytes[i], BYTE_MARK);
+}
+
+/* The counts, with a mark on either side of each. */
+struct counts {
+  uint64_t before;
+  uint64_t bytes;
+  uint64_t between;
+  uint64_t lines;
+  uint64_t behind;
+};
+
+/* Calls with lists of these lengths, and looks at everything that was lent and
+ * everything around it. */
+static void repaired_into(const uint8_t *book, size_t length, size_t room, size_t places)
+{
+  const uint64_t refusal = length > HADLEPHOGA_BOOK_LIMIT ? 10 : room < due.length ? 20 : places < due.count ? 41 : 0;
+  const size_t bytes = refusal == 0 ? due.length : 0;
+  const size_t lines = refusal == 0 ? due.count : 0;
+  struct counts counts;
+
+  memset(&counts, BYTE_MARK, sizeof counts);
+  memset(lent_bytes, BYTE_MARK, MARGIN + room + MARGIN);
+  memset(lent_lines, BYTE_MARK, (MARGIN + places + MARGIN) * sizeof lent_lines[0]);
+  IS(hadlephoga_repair_book(book, length, lent_bytes + MARGIN, room, lent_lines + MARGIN, places,
+                            &counts.bytes, &counts.lines), refusal);
+  IS(counts.bytes, bytes);
+  IS(counts.lines, lines);
+  IS(counts.before, MARK);
+  IS(counts.between, MARK);
+  IS(counts.behind, MARK);
+  untouched(lent_bytes, MARGIN);
+  IS((uint64_t)memcmp(lent_bytes + MARGIN, due.bytes, bytes), 0);
+  untouched(lent_bytes + MARGIN + bytes, room - bytes + MARGIN);
+  untouched(lent_lines, MARGIN * sizeof lent_lines[0]);
+  IS((uint64_t)memcmp(lent_lines + MARGIN, due.lines, lines * sizeof lent_lines[0]), 0);
+  untouched(lent_lines + MARGIN + lines, (places - lines + MARGIN) * sizeof lent_lines[0]);
+}
+
+/* None, one too few, as many as are due, one more, and as many as always suffice. */
+#define EDGES 5
+
+static size_t edge(size_t which, size_t exact, size_t enough)
+{
+  switch (which) {
+  case 0:
+    return 0;
+  case 1:
+    return exact == 0 ? 0 : exact - 1;
+  case 2:
+    return exact;
+  case 3:
+    return exact + 1;
+  default:
+    return enough;
+  }
+}
+
+static void repaired(const uint8_t *book, size_t length)
+{
+  const size_t lines = mend(book, length);
+  size_t i, j;
+
+  IS(due.length <= length, 1);
+  IS(due.count <= lines, 1);
+  for (i = 0; i < EDGES; i++)
+    for (j = 0; j < EDGES; j++)
+      repaired_into(book, length, edge(i, due.length, length), edge(j, due.count, lines));
+  for (i = 1; i < due.count; i++)
+    IS(due.lines[i - 1] < due.lines[i], 1);
+}
+
+/* Nothing is altered in what was repaired. */
+static void repaired_twice(const uint8_t *book, size_t length)
+{
+  static uint8_t once[MOST];
+  size_t bytes;
+
+  repaired(book, length);
+  bytes = due.length;
+  memcpy(once, due.bytes, bytes);
+  repaired(once, bytes);
+  IS(due.count, 0);
+  IS(due.length, bytes);
+  IS((uint64_t)memcmp(due.bytes, once, bytes), 0);
+}
+
+/* Worked out by hand, so that the repair above is looked at too. */
+static void mail_by_hand(void)
+{
+  static const struct {
+    const char *mailed;
+    const char *book;
+    uint64_t altered[3];
+  } mails[] = {
+      {"", "", {0}},
+      {"CRM 1\r\n", "CRM\t1\n", {1}},
+      {"CRM\t1\n", "CRM\t1\n", {0}},
+      {"a\n b", "a\n\tb", {2}},
+      {"a\r\n\n", "a\n\n", {1}},
+      {"a   b \t c\n", "a\tb\t\t\tc\n", {1}},
+      {"a\r\r\r\n\r\n", "a\n\n", {1, 2}},
+      {"\ra\r\rb\n", "\ra\r\rb\n", {0}},
+      {"a\r\n\r", "a\n\r", {1}},
+      {"a\r \r\n", "a\r\t\n", {1}},
+      {"\n\r\n\n \n\n", "\n\n\n\t\n\n", {2, 4}},
+  };
+  size_t i, count;
+
+  for (i = 0; i < sizeof mails / sizeof mails[0]; i++) {
+    repaired((const uint8_t *)mails[i].mailed, strlen(mails[i].mailed));
+    IS(due.length, strlen(mails[i].book));
+    IS((uint64_t)memcmp(due.bytes, mails[i].book, due.length), 0);
+    for (count = 0; mails[i].altered[count] != 0; count++)
+      IS(due.lines[count], mails[i].altered[count]);
+    IS(due.count, count);
+  }
+}
+
+/* Every book of up to six bytes, with one that stays; a line feed, which is not the
+ * book's, stands behind it. */
+static void every_short_mail(void)
+{
+  static const uint8_t letters[5] = {' ', '\t', '\r', '\n', 'x'};
+  uint8_t book[7];
+  size_t length, books, i, rest, place;
+
+  for (length = 0, books = 1; length <= 6; length++, books *= 5)
+    for (i = 0; i < books; i++) {
+      for (place = 0, rest = i; place < length; place++, rest /= 5)
+        book[place] = letters[rest % 5];
+      book[length] = '\n';
+      repaired_twice(book, length);
+    }
+}
+
+/* Of the longest book, and of one byte more, which is refused whatever the lists are. */
+static void longest_mails(void)
+{
+  static const char *const units[] = {"x", " ", "\r", "\n", " \n", "\r\n", "x \r\n"};
+  static uint8_t book[MOST];
+  size_t unit, i;
+
+  for (unit = 0; unit < sizeof units / sizeof units[0]; unit++) {
+    for (i = 0; i < MOST; i++)
+      book[i] = (uint8_t)units[unit][i % strlen(units[unit])];
+    repaired(book, MOST);
+    repaired_twice(book, HADLEPHOGA_BOOK_LIMIT);
+  }
+  memset(book, ' ', sizeof book);
+  repaired(book, HADLEPHOGA_BOOK_LIMIT);
+  IS(due.length, 1);
+  IS(due.bytes[0], '\t');
+  IS(due.count, 1);
+  memset(book, '\r', sizeof book);
+  book[HADLEPHOGA_BOOK_LIMIT - 1] = '\n';
+  repaired(book, HADLEPHOGA_BOOK_LIMIT);
+  IS(due.length, 1);
+  IS(due.bytes[0], '\n');
+  IS(due.count, 1);
+}
+
+/* The text as it came by mail, with so many spaces for a tab and so many carriage
+ * returns in front of a line feed. */
+static size_t mangled(const char *text, size_t spaces, size_t returns, uint8_t *book)
+{
+  size_t length = 0;
+
+  for (; *text != '\0'; text++) {
+    const size_t times = *text == '\t' ? spaces : *text == '\n' ? returns : 0;
+
+    memset(book + length, *text == '\t' ? ' ' : '\r', times);
+    length += times;
+    if (*text != '\t')
+      book[length++] = (uint8_t)*text;
+  }
+  return length;
+}
+
+/* A mailed book is refused, and answered as ever once it is repaired; the layout is
+ * the one it was. */
+static void answers_of_mail(const char *text)
+{
+  uint8_t mailed[1024];
+  char book[1024];
+  struct hadlephoga_answer answers[2];
+  uint64_t altered[3], deals, bytes, lines;
+  size_t spaces, returns, length;
+
+  for (spaces = 1; spaces <= 8; spaces++)
+    for (returns = 0; returns <= 2; returns++) {
+      length = mangled(text, spaces, returns, mailed);
+      repaired(mailed, length);
+      IS(hadlephoga_answers(mailed, length, answers, 2, &deals), 9);
+      IS(hadlephoga_repair_book(mailed, length, (uint8_t *)book, sizeof book, altered, 3, &bytes, &lines), 0);
+      IS(bytes, strlen(text));
+      IS(lines, 3);
+      IS(altered[0] == 1 && altered[1] == 2 && altered[2] == 3, 1);
+      book[bytes] = '\0';
+      IS((uint64_t)strcmp(book, text), 0);
+      answers_of_two_deals(book);
+      IS(hadlephoga_layout(), 4);
+    }
+}
+
 int main(void)
 {
   lengths();
@@ -1316,5 +1584,11 @@ int main(void)
   answers_of_two_deals(two_deals_of_2023);
   answers_of_swaps();
   longest_book();
+  mail_by_hand();
+  every_short_mail();
+  longest_mails();
+  answers_of_mail(two_deals);
+  answers_of_mail(two_deals_with_sovereigns);
+  answers_of_mail(two_deals_of_2023);
   return 0;
 }

@@ -42,6 +42,7 @@ extern "C" {
  *      portion stands behind these: outcome 6, cover 7, report 211. Figures,
  *      grounds, records and refusals are as they were. A program built for layout 3
  *      lends 83 numbers for a report, which is refused by 13, and nothing is written.
+ *      hadlephoga_repair_book came with this layout, and refusals 20 and 41 with it.
  *
  * The rule of change. The layout is how many numbers there are of terms, of an
  * item, of a record and of a report, their order and what each of them means; the
@@ -94,6 +95,29 @@ uint64_t hadlephoga_layout(void);
 uint64_t hadlephoga_answer_book(const uint8_t *book, size_t book_length,
                                 uint64_t *results, size_t results_length,
                                 uint64_t *deals);
+
+/*
+ * Repairs a book that came by mail: each run of spaces becomes one tab, and every
+ * carriage return of a run that ends at a line feed is dropped; any other byte, and
+ * any other carriage return, stays. Returns 0, or the refusal, the first met:
+ *
+ *   10  longer than 65,536 bytes
+ *   20  repaired_length is below the repaired book's bytes
+ *   41  altered_length is below the count of altered lines
+ *
+ * The repaired book is written from the front of repaired, the numbers of the lines
+ * it altered from the front of altered, rising, each once, the first line being 1,
+ * and nothing behind either; *bytes and *lines are how many. Where the book is
+ * refused, repaired and altered are untouched and *bytes and *lines are 0.
+ *
+ * As many bytes as the book has, and as many numbers as it has lines, are always
+ * enough. Lines keep their numbers, a book without spaces and such carriage returns
+ * is copied, and repairing what was repaired alters nothing.
+ */
+uint64_t hadlephoga_repair_book(const uint8_t *book, size_t book_length,
+                                uint8_t *repaired, size_t repaired_length,
+                                uint64_t *altered, size_t altered_length,
+                                uint64_t *bytes, uint64_t *lines);
 
 /*
  * Opens a deal. Returns the first that applies:

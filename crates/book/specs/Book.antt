@@ -8,15 +8,11 @@ use Rattle.base.specs.All.{allPass}
 use Rattle.base.specs.Choice.{if_then_else_}
 use Rattle.base.specs.Writing.{overwrite}
 use Rattle.base.specs.FirstMet.{Test, _when_, firstMet}
-use Rattle.text.specs.Text.{firstLine, linesOf}
+use Rattle.text.specs.Text.{bookLimit, firstLine, linesOf}
 use Rattle.book.specs.Deals.{DealLines, opensDeal, dealsFrom}
 use Rattle.book.specs.Answers.{answersFrom}
 use Rattle.book.specs.Heading.{editionOf, headingOf, isWrong}
 use Rattle.book.specs.declared.reply.BookReply.{BookReply}
-
--- in bytes
-abbrev pub bookLimit : ℕ
-bookLimit = 65536
 
 -- the edition that the first line says
 abbrev pub bookEdition : List ℕ → ℕ

@@ -4,9 +4,8 @@ ghost use Rattle.book.specs.Book.{bookReply, refusedReply};
 use crate::deals::count_deals;
 use crate::heading::read_heading;
 use crate::reading::own_line;
+use text::BOOK_LIMIT;
 use text::line_end;
-
-const BYTE_LIMIT: usize = 65_536;
 
 const WRONG_HEADING: u64 = 9;
 
@@ -33,7 +32,7 @@ fn refused(refusal: u64) -> BookReply
 pub fn reply_to(book: &[u8], places: usize) -> BookReply
     ensures { λ r. ⌜ r ≡ bookReply (now (book .entry)) places ⌝ }
 {
-    if book.len() > BYTE_LIMIT {
+    if book.len() > BOOK_LIMIT {
         return refused(TOO_LONG);
     }
     let at = line_end(book, 0);

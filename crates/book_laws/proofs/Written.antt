@@ -1,10 +1,16 @@
--- A number that was written reads back, and starts with no zero. Assumes nothing.
+-- A number that was written is digits, reads back, and starts with no zero. Assumes nothing.
 use Prim.Native.Nat.{ℕ, zero, suc, _+_, _/_, _%_, _^_, _<_}
-use mathlib.Core.Path.{_≡_}
-use mathlib.Core.List.{[], _∷_}
+use mathlib.Core.Path.{_≡_, refl}
+use mathlib.Core.Bool.{Bool, true, _&&_}
+use mathlib.Core.List.{List, [], _∷_, _++_}
 use native.Mathlib.Nat.{pow-suc}
 use native.Mathlib.Omega.{arith}
+use borrow.Author.Tests.{le-leb}
+use lib.Dec.{leb}
 use lib.ListN.{length, length-append, getD, List·getD-append}
+use Rattle.base.specs.All.{allPass}
+use Rattle.base.proofs.Every.{both}
+use Rattle.base.proofs.Tests.{and-true}
 use Rattle.text.specs.Decimal.{decimal, decimalFrom}
 use Rattle.text.proofs.Decimal.{decimal-more}
 use Rattle.result.specs.Numbers.{digitText, numberText}
@@ -38,3 +44,27 @@ digits-start (suc (suc k)) n h b =
 pub no-leading-zero : (n : ℕ) → 0 < n → n < 18446744073709551616 → getD (numberText n) 0 0 ≡ 48 → ⊥
 unfolding numberText
 no-leading-zero n h b = digits-start 20 n h (omega arith)
+
+-- a byte "0" to "9"
+abbrev pub isDigit : ℕ → Bool
+isDigit b = leb 48 b && leb b 57
+
+digit : (n : ℕ) → n < 10 → isDigit (48 + n) ≡ true
+digit n h = and-true _ _ (le-leb 48 (48 + n) (omega arith)) (le-leb (48 + n) 57 (omega arith))
+
+one-more : (xs : List ℕ) (d : ℕ) → allPass xs isDigit ≡ true → isDigit d ≡ true → allPass (xs ++ d ∷ []) isDigit ≡ true
+one-more [] d h e = and-true _ _ e refl
+one-more (x ∷ xs) d h e = let b = both (isDigit x) (allPass xs isDigit) h in and-true _ _ (b .0) (one-more xs d (b .1) e)
+
+digits-only : (k n : ℕ) → allPass (digitText k n) isDigit ≡ true
+unfolding digitText
+digits-only zero n = refl
+digits-only (suc k) n =
+    by-size (λ t. allPass t isDigit ≡ true) k n
+    (λ s. and-true _ _ (digit n s) refl)
+    (λ l. one-more (digitText k (n / 10)) (48 + n % 10) (digits-only k (n / 10)) (digit (n % 10) (omega arith)))
+
+-- and nothing but digits
+pub number-digits : (n : ℕ) → allPass (numberText n) isDigit ≡ true
+unfolding numberText
+number-digits n = digits-only 20 n

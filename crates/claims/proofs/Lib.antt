@@ -5,5 +5,6 @@ pub mod Demand3
 pub mod DailyFigures
 pub mod LongerLives
 pub mod Losses
+pub mod MailedBooks
 pub mod SovereignFloor
 pub mod Tables2023

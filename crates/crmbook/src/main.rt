@@ -1,6 +1,4 @@
 // The program crmbook: reads a book on standard input and writes its result on standard output.
-mod input;
-
 use input::read_input;
 use libc::STDERR_FILENO;
 use libc::STDOUT_FILENO;

@@ -13,11 +13,11 @@ use Rattle.base.specs.FirstMet.{firstOr}
 use Rattle.base.specs.Writing.{overwrite}
 use Rattle.base.proofs.Choice.{either, if-false, if-true}
 use Rattle.base.proofs.Every.{both}
-use Rattle.text.specs.Text.{firstLine}
+use Rattle.text.specs.Text.{bookLimit, firstLine}
 use Rattle.deal.specs.declared.deal.Deal.{Deal}
 use Rattle.lines.specs.declared.line.Line.{Line}
 use Rattle.book.specs.Answers.{refusedAt}
-use Rattle.book.specs.Book.{bookLimit, dealsOf, linesBehind}
+use Rattle.book.specs.Book.{dealsOf, linesBehind}
 use Rattle.book.specs.Deals.{DealLines}
 use Rattle.book.specs.Heading.{isWrong}
 use Rattle.result.specs.Result.{resultText}

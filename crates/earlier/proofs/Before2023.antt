@@ -15,7 +15,7 @@ use Rattle.base.proofs.Every.{both}
 use Rattle.base.proofs.FirstMet.{none-exactly}
 use Rattle.tables.specs.Table.{Table}
 use Rattle.tables.proofs.Versions.{of-2019}
-use Rattle.text.specs.Text.{firstLine, sameBytes, startsWith}
+use Rattle.text.specs.Text.{bookLimit, firstLine, sameBytes, startsWith}
 use Rattle.text.proofs.Equal.{same-equal}
 use Rattle.deal.specs.Assets.{goodsKnown}
 use Rattle.deal.specs.Checks.{fieldTests}
@@ -35,7 +35,7 @@ use Rattle.relief.specs.Report.{fullReport}
 use Rattle.lines.specs.Lines.{lineOf}
 use Rattle.lines.specs.declared.line.Line.{Line}
 use Rattle.lines.specs.declared.line.Line.the-variants.{DealLine, CollateralLine, GuaranteeLine, Malformed}
-use Rattle.book.specs.Book.{bookLimit, linesBehind}
+use Rattle.book.specs.Book.{linesBehind}
 use Rattle.book.specs.Deals.{DealLines}
 use Rattle.book.specs.Heading.{editionOf, firstHeader, headingOf, isWrong, secondHeader, thirdHeader}
 use Rattle.book.specs.declared.heading.Heading.{Heading}

@@ -19,7 +19,7 @@ use Rattle.base.proofs.Tests.{and-true}
 use Rattle.tables.specs.Table.{tableOf}
 use Rattle.tables.specs.Weights.{atLeastSovereign, counterpartyWeight, hasFloor, providerWeight}
 use Rattle.text.specs.Bytes.{byte}
-use Rattle.text.specs.Text.{firstLine, sameBytes, startsWith}
+use Rattle.text.specs.Text.{bookLimit, firstLine, sameBytes, startsWith}
 use Rattle.text.proofs.Equal.{same-equal}
 use Rattle.deal.specs.Assets.{goodsKnown}
 use Rattle.deal.specs.Checks.{fieldTests}
@@ -42,7 +42,7 @@ use Rattle.lines.specs.Sovereign.{widthUnder, withSovereign}
 use Rattle.lines.specs.declared.line.Line.{Line}
 use Rattle.lines.specs.declared.line.Line.the-variants.{DealLine, CollateralLine, GuaranteeLine, Malformed}
 use Rattle.lines.proofs.SovereignLaws.{put-at}
-use Rattle.book.specs.Book.{bookLimit, linesBehind}
+use Rattle.book.specs.Book.{linesBehind}
 use Rattle.book.specs.Deals.{DealLines}
 use Rattle.book.specs.Heading.{editionOf, firstHeader, headingOf, isWrong, secondHeader, thirdHeader}
 use Rattle.book.specs.declared.heading.Heading.{Heading}

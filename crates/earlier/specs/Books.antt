@@ -9,12 +9,12 @@ use Rattle.base.specs.All.{allPass}
 use Rattle.base.specs.Choice.{if_then_else_}
 use Rattle.base.specs.FirstMet.{Test, _when_, firstMet}
 use Rattle.base.specs.Writing.{overwrite}
-use Rattle.text.specs.Text.{firstLine}
+use Rattle.text.specs.Text.{bookLimit, firstLine}
 use Rattle.deal.specs.declared.deal.Deal.{Deal}
 use Rattle.lines.specs.declared.line.Line.{Line}
 use Rattle.lines.specs.declared.line.Line.the-variants.{DealLine, CollateralLine, GuaranteeLine, Malformed}
 use Rattle.book.specs.Answers.{malformedLine, noDeal, refusedAt}
-use Rattle.book.specs.Book.{bookLimit, dealsOf, linesBehind}
+use Rattle.book.specs.Book.{dealsOf, linesBehind}
 use Rattle.book.specs.Deals.{DealLines, opensDeal}
 use Rattle.book.specs.Heading.{editionOf, isWrong}
 use Rattle.book.specs.declared.reply.BookReply.{BookReply}

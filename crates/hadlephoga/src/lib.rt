@@ -1,8 +1,10 @@
-// The proved library for programs in other languages: answering a book, opening a deal, adding an item to it, and reporting it. Numbers
-// and slices only, and nothing is asked of the caller's numbers: whatever they are, the answer is a figure or a refusal.
+// The proved library for programs in other languages: answering a book, repairing one that came by mail, opening a deal, adding an item to
+// it, and reporting it. Numbers and slices only, and nothing is asked of the caller's numbers: whatever they are, the answer is a figure or
+// a refusal.
 ghost use mathlib.Core.Path.{_≡_};
 ghost use lib.ListN.{length};
 ghost use Rattle.book.specs.Book.{bookReply, resultsAfter};
+ghost use Rattle.mail.specs.Reply.{bufferAfter, numbersAfter, repairReply};
 ghost use Rattle.hadlephoga.specs.Layout.{layout};
 ghost use Rattle.hadlephoga.specs.Operations.{addingCollateralRefusal, addingGuaranteeRefusal, addingSwapRefusal, listOpened, numbersWithCollateral, numbersWithGuarantee, numbersWithSwap, openingRefusalOf};
 ghost use Rattle.hadlephoga.specs.Reports.{listAfter, reportingRefusal};
@@ -18,6 +20,7 @@ use adding::add_collateral;
 use adding::add_guarantee;
 use adding::add_swap;
 use book::answer::answer_book;
+use mail::repair_book;
 use opening::open_record;
 use record::report_in;
 use report::REPORT_LENGTH;
@@ -47,6 +50,28 @@ pub extern "C" fn hadlephoga_answer_book(book: &[u8], results: &mut [u64], deals
 {
     let reply = answer_book(book, results);
     *deals = reply.deals as u64;
+    reply.refusal
+}
+
+// Repairing a book that came by mail: the refusal or 0, both lengths beside it, the book's bytes in the buffer, and the numbers of its
+// altered lines in the list.
+#[no_mangle]
+pub extern "C" fn hadlephoga_repair_book(
+    book: &[u8],
+    repaired: &mut [u8],
+    altered: &mut [u64],
+    bytes: &mut u64,
+    lines: &mut u64,
+) -> u64
+    ensures { λ r. ⌜ r ≡ repairReply (now (book .entry)) (length (now (repaired .entry))) (length (now (altered .entry))) .refusal ⌝ }
+    ensures { λ _. ⌜ now (bytes .exit) ≡ repairReply (now (book .entry)) (length (now (repaired .entry))) (length (now (altered .entry))) .bytes ⌝ }
+    ensures { λ _. ⌜ now (lines .exit) ≡ repairReply (now (book .entry)) (length (now (repaired .entry))) (length (now (altered .entry))) .lines ⌝ }
+    ensures { λ _. ⌜ now (repaired .exit) ≡ bufferAfter (now (book .entry)) (now (repaired .entry)) (length (now (altered .entry))) ⌝ }
+    ensures { λ _. ⌜ now (altered .exit) ≡ numbersAfter (now (book .entry)) (length (now (repaired .entry))) (now (altered .entry)) ⌝ }
+{
+    let reply = repair_book(book, repaired, altered);
+    *bytes = reply.bytes as u64;
+    *lines = reply.lines as u64;
     reply.refusal
 }
 

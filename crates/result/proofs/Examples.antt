@@ -1,10 +1,11 @@
--- Texts of results, written by the definitions themselves. 01: The book. Assumes nothing.
+-- Texts of results and of lists of numbers, written by the definitions themselves. 01: The book; 02: L14. Assumes nothing.
 use mathlib.Core.Path.{_≡_, refl}
 use mathlib.Core.List.{[], _∷_}
 use Rattle.base.specs.Choice.{if_then_else_}
 use Rattle.text.specs.Bytes.{bytes}
 use Rattle.result.specs.Numbers.{digitText, numberText}
 use Rattle.result.specs.Result.{row, rows, resultText, fits, written}
+use Rattle.result.specs.List.{numberLines, listText, listFits, listWritten}
 
 -- the example of 01
 pub three-deals :
@@ -47,3 +48,29 @@ just-enough = refl
 pub largest : numberText 18446744073709551615 ≡ bytes "18446744073709551615"
 unfolding numberText digitText if_then_else_
 largest = refl
+
+-- three numbers, no number, and a refusal, beside which no number is written
+pub three-numbers : listText 0 3 (1 ∷ 12 ∷ 65536 ∷ []) ≡ bytes "1\n12\n65536\n"
+unfolding listText numberLines numberText digitText if_then_else_
+three-numbers = refl
+
+pub no-numbers : listText 0 0 (1 ∷ []) ≡ []
+unfolding listText numberLines if_then_else_
+no-numbers = refl
+
+pub list-refusal : listText 10 1 (1 ∷ []) ≡ bytes "REFUSED\t10\n"
+unfolding listText numberText digitText if_then_else_
+list-refusal = refl
+
+-- of one number: a buffer one byte too short for its longest line, an empty list, and enough of both
+pub short-list-buffer : listWritten 0 1 (7 ∷ []) 49 ≡ []
+unfolding listWritten listFits if_then_else_
+short-list-buffer = refl
+
+pub few-numbers : listWritten 0 1 [] 50 ≡ []
+unfolding listWritten listFits if_then_else_
+few-numbers = refl
+
+pub enough-for-one : listWritten 0 1 (7 ∷ []) 50 ≡ bytes "7\n"
+unfolding listWritten listFits listText numberLines numberText digitText if_then_else_
+enough-for-one = refl

@@ -6,13 +6,11 @@ use native.Mathlib.Nat.{add-zero}
 use native.Mathlib.Omega.{arith}
 use lib.ListN.{length, length-append, drop, length-drop, getD, List·getD-append}
 use lib.Seq.{getD-drop, drop-drop, drop-append-le}
-use borrow.Author.Tests.{le-leb}
-use Rattle.base.proofs.Choice.{if-true}
-use Rattle.base.proofs.Tests.{and-true}
 use Rattle.text.specs.Text.{tab, lineFeed}
 use Rattle.result.specs.Numbers.{numberText}
 use Rattle.result.specs.Result.{row, rows, resultText, room, fits, written}
 use Rattle.result.proofs.Digits.{number-short}
+use Rattle.result.proofs.Lent.{fitting-whole}
 
 -- a number, and the byte that ends it
 abbrev pub field : ℕ → ℕ → List ℕ
@@ -57,4 +55,4 @@ text-front refusal deals answers behind h = rw (rows-front deals answers behind 
 -- the text is written where both have room
 pub written-whole : (refusal deals space : ℕ) (results : List ℕ) → room deals ≤ space → 4 * deals ≤ length results → written refusal deals results space ≡ resultText refusal deals results
 unfolding written fits
-written-whole refusal deals space results h k = if-true _ _ _ (and-true _ _ (le-leb _ _ h) (le-leb _ _ k))
+written-whole refusal deals space results h k = fitting-whole _ _ _ _ h k _

@@ -1,2 +1,3 @@
+pub mod List
 pub mod Numbers
 pub mod Result

@@ -26,10 +26,14 @@ heading = bytes "RESULT\t1\n"
 abbrev pub refusedHeading : List ℕ
 refusedHeading = bytes "REFUSED\t"
 
+-- the text of a refusal
+abbrev pub refusedText : ℕ → List ℕ
+refusedText refusal = refusedHeading ++ numberText refusal ++ lineFeed ∷ []
+
 -- with refusal 0 the heading and a line for each deal, otherwise only REFUSED and the refusal's number
 unfoldable pub resultText : ℕ → ℕ → List ℕ → List ℕ
 resultText refusal deals results =
-    if eqb refusal 0 then heading ++ rows deals results else refusedHeading ++ numberText refusal ++ lineFeed ∷ []
+    if eqb refusal 0 then heading ++ rows deals results else refusedText refusal
 
 -- room for the text of so many deals, whatever their numbers: four of 20 digits each, with a byte behind each, and 29 bytes for a heading
 -- or a refusal

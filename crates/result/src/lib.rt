@@ -5,16 +5,15 @@ ghost use lib.ListN.{length, drop};
 ghost use Rattle.result.specs.Result.{written};
 
 mod buffer;
+pub mod list;
 mod number;
+mod refusal;
 mod rows;
 
 use buffer::put_bytes;
-use rows::put_field;
+use refusal::LONGEST_REFUSAL;
+use refusal::put_refusal;
 use rows::put_rows;
-use text::LINE_FEED;
-
-// The longest text with no deal's line: REFUSED, a tab, 20 digits and a line feed.
-const NO_DEAL: usize = 29;
 
 // The longest line of a deal: four numbers of 20 digits with a byte behind each.
 const LONGEST_ROW: usize = 84;
@@ -24,10 +23,10 @@ pub fn write_result(refusal: u64, deals: usize, results: &[u64], out: &mut [u8])
     ensures { λ r. ⌜ (let text = written refusal deals (now (results .entry)) (length (now (out .entry))) in
         (r ≡ length text) × (now (out .exit) ≡ text ++ drop (length text) (now (out .entry)))) ⌝ }
 {
-    if out.len() < NO_DEAL {
+    if out.len() < LONGEST_REFUSAL {
         return 0;
     }
-    if (out.len() - NO_DEAL) / LONGEST_ROW < deals {
+    if (out.len() - LONGEST_REFUSAL) / LONGEST_ROW < deals {
         return 0;
     }
     if results.len() / 4 < deals {
@@ -37,6 +36,5 @@ pub fn write_result(refusal: u64, deals: usize, results: &[u64], out: &mut [u8])
         let start = put_bytes(out, 0, b"RESULT\t1\n");
         return put_rows(out, start, results, deals);
     }
-    let start = put_bytes(out, 0, b"REFUSED\t");
-    put_field(out, start, refusal, LINE_FEED)
+    put_refusal(out, refusal)
 }

@@ -4,3 +4,4 @@ pub mod Ends
 pub mod Equal
 pub mod Examples
 pub mod Lines
+pub mod WholeLines

@@ -13,6 +13,10 @@ tab = 9
 abbrev pub lineFeed : ℕ
 lineFeed = 10
 
+-- the longest book, in bytes. 01: Answering a book, "10 longer than 65,536 bytes"
+abbrev pub bookLimit : ℕ
+bookLimit = 65536
+
 -- whether a text, the second one, starts with the first
 unfoldable pub startsWith : List ℕ → List ℕ → Bool
 startsWith [] text = true

@@ -10,6 +10,9 @@ pub const TAB: u8 = 9;
 
 pub const LINE_FEED: u8 = 10;
 
+// The longest book, in bytes.
+pub const BOOK_LIMIT: usize = 65_536;
+
 // Whether a text starts with these bytes.
 pub fn starts_with(text: &[u8], prefix: &[u8]) -> bool
     ensures { λ r. ⌜ r ≡ startsWith (now (prefix .entry)) (now (text .entry)) ⌝ }

@@ -1,11 +1,11 @@
-//! Answers the sample book of document 01, builds and reports a deal of its own,
-//! and reports one without and with the floor of edition 2, one by the tables of
-//! 2019 and of 2023, one with a swap of each kind, and one whose items lose by every
-//! step.
+//! Answers the sample book of document 01, repairs it after it came by mail, builds and
+//! reports a deal of its own, and reports one without and with the floor of edition 2,
+//! one by the tables of 2019 and of 2023, one with a swap of each kind, and one whose
+//! items lose by every step.
 
 use hadlephoga::{
-    add_collateral, add_guarantee, add_swap, answer_book, open, report, Collateral, Guarantee,
-    Outcome, Refusal, Report, Swap, Terms, Valuation, ANSWER_LENGTH,
+    add_collateral, add_guarantee, add_swap, answer_book, open, repair_book, report, Collateral,
+    Guarantee, Outcome, Refusal, Report, Swap, Terms, Valuation, ANSWER_LENGTH,
 };
 
 const SAMPLE: &[u8] = b"CRM\t1\n\
@@ -15,8 +15,18 @@ const SAMPLE: &[u8] = b"CRM\t1\n\
     D\t500\t2\t7\t840\t1\t1\t30\t1\t0\t0\n\
     D\t900\t4\t0\t978\t3\t1\t90\t1\t0\t0\n";
 
+/// The sample as it came by mail, its tabs spaces up to every fourth column and its
+/// lines with carriage returns. Its third and fifth line were spared.
+const MAILED: &[u8] = b"CRM 1\r\n\
+    D   1000000 3   0   978 3   1   1800    1   0   0\r\n\
+    C\t400000\t2\t1\t720\t978\t1800\t1800\t1\t1\t1\t0\n\
+    G   200000  1   1   978 1800    1800    1   1   1\r\n\
+    D\t500\t2\t7\t840\t1\t1\t30\t1\t0\t0\n\
+    D   900 4   0   978 3   1   90  1   0   0\r\r\n";
+
 fn main() -> Result<(), Refusal> {
-    answer_sample()?;
+    answer(SAMPLE)?;
+    repair_mailed()?;
     report_loan()?;
     for edition in [1, 2] {
         let report = floored(edition)?;
@@ -60,9 +70,9 @@ fn told(outcome: Outcome) -> String {
     }
 }
 
-fn answer_sample() -> Result<(), Refusal> {
+fn answer(book: &[u8]) -> Result<(), Refusal> {
     let mut results = [0; ANSWER_LENGTH * 8];
-    let deals = answer_book(SAMPLE, &mut results)?;
+    let deals = answer_book(book, &mut results)?;
     for answer in results.chunks_exact(ANSWER_LENGTH).take(deals) {
         match answer[1] {
             0 => println!(
@@ -78,6 +88,23 @@ fn answer_sample() -> Result<(), Refusal> {
         }
     }
     Ok(())
+}
+
+fn repair_mailed() -> Result<(), Refusal> {
+    if let Err(refusal) = answer(MAILED) {
+        println!("mailed, {refusal}");
+    }
+    let repaired = repair_book(MAILED)?;
+    let sample = if repaired.book == SAMPLE {
+        "is"
+    } else {
+        "is not"
+    };
+    println!(
+        "repaired, it {sample} the sample, altered lines {:?}",
+        repaired.altered
+    );
+    answer(&repaired.book)
 }
 
 /// To an unrated corporate, for 1,800 days.

@@ -20,6 +20,16 @@ extern "C" {
         results_length: usize,
         deals: *mut u64,
     ) -> u64;
+    fn hadlephoga_repair_book(
+        book: *const u8,
+        book_length: usize,
+        repaired: *mut u8,
+        repaired_length: usize,
+        altered: *mut u64,
+        altered_length: usize,
+        bytes: *mut u64,
+        lines: *mut u64,
+    ) -> u64;
     fn hadlephoga_open_deal(
         terms: *const u64,
         terms_length: usize,
@@ -98,6 +108,49 @@ pub fn answer_book_numbers(book: &[u8], results: &mut [u64]) -> BookReply {
         )
     };
     BookReply { refusal, deals }
+}
+
+/// The reply to a mailed book: its refusal or 0, and the counts of bytes and of
+/// line numbers written.
+#[derive(Clone, Copy, Debug, PartialEq, Eq)]
+pub struct RepairReply {
+    pub refusal: u64,
+    pub bytes: u64,
+    pub lines: u64,
+}
+
+/// Repairs a book that came by mail: each run of spaces becomes one tab, every
+/// carriage return of a run that ends at a line feed is dropped, and any other byte
+/// stays. The repaired book is written from the front of `repaired`, the numbers of
+/// the altered lines, from 1 and rising, from the front of `altered`, and nothing
+/// behind either. As many bytes as the book has, and as many numbers as it has
+/// lines, are always enough.
+///
+/// A book is refused with 10, else 20 (too few bytes in `repaired`), else 41 (too
+/// few numbers in `altered`), which leaves both untouched.
+pub fn repair_book_numbers(book: &[u8], repaired: &mut [u8], altered: &mut [u64]) -> RepairReply {
+    compare_once();
+    // No counts, as in `answer_book_numbers`.
+    let (mut bytes, mut lines) = (u64::MAX, u64::MAX);
+    // SAFETY: as in `answer_book_numbers`, with `repaired`, `altered` and both
+    // counts borrowed alone.
+    let refusal = unsafe {
+        hadlephoga_repair_book(
+            book.as_ptr(),
+            book.len(),
+            repaired.as_mut_ptr(),
+            repaired.len(),
+            altered.as_mut_ptr(),
+            altered.len(),
+            &mut bytes,
+            &mut lines,
+        )
+    };
+    RepairReply {
+        refusal,
+        bytes,
+        lines,
+    }
 }
 
 /// Opens a deal on terms given as numbers, in the layout of

@@ -1,12 +1,13 @@
 //! Safe calls into the proved calculator of credit-risk relief.
 //!
-//! A book of deals is answered by [`answer_book`], four numbers a deal. One
-//! deal is opened by [`open`], gets its items by [`add_collateral`],
-//! [`add_guarantee`] and [`add_swap`], and is reported by [`report`], with what
-//! became of every item: its value and where the rest of its amount went, or the
-//! ground for leaving it out. All answer every input with figures or a
-//! [`Refusal`]; nothing panics, save the first call in a program that was linked
-//! with a library of another layout of numbers than [`LAYOUT`].
+//! A book of deals is answered by [`answer_book`], four numbers a deal; one that
+//! came by mail is repaired first, by [`repair_book`]. One deal is opened by
+//! [`open`], gets its items by [`add_collateral`], [`add_guarantee`] and
+//! [`add_swap`], and is reported by [`report`], with what became of every item: its
+//! value and where the rest of its amount went, or the ground for leaving it out.
+//! All answer every input with figures or a [`Refusal`]; nothing panics, save the
+//! first call in a program that was linked with a library of another layout of
+//! numbers than [`LAYOUT`].
 //!
 //! ```
 //! let book = b"CRM\t1\nD\t900\t4\t0\t978\t3\t1\t90\t1\t0\t0\n";
@@ -45,6 +46,16 @@
 //! assert_eq!(results, [1, 0, 900, 378]);
 //! ```
 //!
+//! The first of these books, after a mail program made its tabs spaces and added
+//! carriage returns:
+//!
+//! ```
+//! let mailed = b"CRM 1\r\nD   900 4 0 978 3 1 90  1 0 0\r\n";
+//! let repaired = hadlephoga::repair_book(mailed).unwrap();
+//! assert_eq!(repaired.book, b"CRM\t1\nD\t900\t4\t0\t978\t3\t1\t90\t1\t0\t0\n");
+//! assert_eq!(repaired.altered, [1, 2]);
+//! ```
+//!
 //! Cash of 1,000,000 in another currency, for half the days of the deal, and where
 //! it went:
 //!
@@ -66,6 +77,7 @@
 
 mod calls;
 mod layout;
+mod mail;
 mod numbers;
 mod record;
 mod refusal;
@@ -73,10 +85,11 @@ mod report;
 
 pub use calls::{
     add_collateral, add_collateral_numbers, add_guarantee, add_guarantee_numbers, add_swap,
-    add_swap_numbers, answer_book, answer_book_numbers, layout, open, open_numbers, report,
-    report_numbers, BookReply, ANSWER_LENGTH, BOOK_LIMIT,
+    add_swap_numbers, answer_book, answer_book_numbers, layout, open, open_numbers,
+    repair_book_numbers, report, report_numbers, BookReply, RepairReply, ANSWER_LENGTH, BOOK_LIMIT,
 };
 pub use layout::LAYOUT;
+pub use mail::{repair_book, Repaired};
 pub use record::{
     Collateral, Guarantee, HeldGuarantee, Record, Swap, Terms, GUARANTEE_INSTRUMENT, ITEMS,
     RECORD_LENGTH, SWAP_WITHOUT_RESTRUCTURING, SWAP_WITH_RESTRUCTURING,

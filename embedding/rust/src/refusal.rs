@@ -2,8 +2,8 @@
 
 use std::fmt;
 
-/// The number of a refusal: 9, 10, 12, 13 of a book; 1 to 8 and 11 of a line
-/// in a book, of opening and of adding; 40 of a record.
+/// The number of a refusal: 9, 10, 12, 13 of a book; 10, 20, 41 of one that came by
+/// mail; 1 to 8 and 11 of a line in a book, of opening and of adding; 40 of a record.
 #[derive(Clone, Copy, Debug, PartialEq, Eq)]
 pub struct Refusal(pub u64);
 
@@ -23,7 +23,9 @@ impl fmt::Display for Refusal {
             11 => "malformed line",
             12 => "second line opens no deal",
             13 => "list too short",
+            20 => "buffer too short for the repaired book",
             40 => "record not accepted",
+            41 => "list too short for the altered lines",
             _ => "unknown refusal",
         };
         write!(out, "refusal {}: {words}", self.0)

@@ -97,7 +97,12 @@ fn words_of_refusals() {
         (12, "second line opens no deal"),
         (13, "list too short"),
         (14, "unknown refusal"),
+        (19, "unknown refusal"),
+        (20, "buffer too short for the repaired book"),
+        (21, "unknown refusal"),
         (40, "record not accepted"),
+        (41, "list too short for the altered lines"),
+        (42, "unknown refusal"),
     ] {
         let due = format!("refusal {refusal}: {words}");
         assert_eq!(Refusal(refusal).to_string(), due);

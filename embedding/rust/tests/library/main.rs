@@ -9,6 +9,7 @@ mod grounds;
 mod layout;
 mod lines;
 mod losses;
+mod mail;
 mod records;
 mod sample;
 mod sovereigns;

@@ -12,6 +12,13 @@ pub const SAMPLE: &[u8] = b"CRM\t1\n\
 
 pub const SAMPLE_RESULTS: [u64; 12] = [1, 0, 611314, 411314, 2, 3, 5, 0, 3, 0, 900, 675];
 
+/// The sample as it came by mail, with these for each tab and each line feed.
+pub fn mailed(tab: &str, feed: &str) -> Vec<u8> {
+    let sample = std::str::from_utf8(SAMPLE).expect("a book in ASCII");
+    let mailed = sample.replace('\t', tab).replace('\n', feed);
+    mailed.into_bytes()
+}
+
 /// A loan of 1,000,000 for 1,800 days to an unrated corporate, revalued daily.
 pub const LOAN: Terms = Terms {
     amount: 1_000_000,

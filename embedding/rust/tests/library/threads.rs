@@ -2,8 +2,8 @@
 
 use std::thread;
 
-use crate::sample::{held, valued, CASH, GUARANTEE, LOAN, SAMPLE, SAMPLE_RESULTS};
-use hadlephoga::{answer_book, report, Collateral, Record, Terms};
+use crate::sample::{held, mailed, valued, CASH, GUARANTEE, LOAN, SAMPLE, SAMPLE_RESULTS};
+use hadlephoga::{answer_book, repair_book, report, Collateral, Record, Terms};
 
 #[test]
 fn side_by_side() {
@@ -21,12 +21,16 @@ fn side_by_side() {
                 let alone = report(&record).expect("an accepted deal");
                 let lost = valued(420_092, [113_138, 466_770, 0]);
                 assert_eq!(alone.collateral, [lost; 16]);
+                let mailed = mailed(&" ".repeat(1 + number as usize), "\r\n");
                 for _ in 0..500 {
                     let mut results = [number; 13];
                     assert_eq!(answer_book(SAMPLE, &mut results), Ok(3));
                     assert_eq!(results[..12], SAMPLE_RESULTS);
                     assert_eq!(results[12], number);
                     assert_eq!(report(&record).as_ref(), Ok(&alone));
+                    let repaired = repair_book(&mailed).expect("a mailed book");
+                    assert!(repaired.book == SAMPLE);
+                    assert_eq!(repaired.altered, [1, 2, 3, 4, 5, 6]);
                 }
             });
         }

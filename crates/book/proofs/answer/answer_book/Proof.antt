@@ -8,14 +8,14 @@ use native.Mathlib.Omega.{arith}
 use lib.Dec.{eqb}
 use lib.ListN.{length, take, drop, length-drop}
 use Rattle.base.proofs.Tests.{tests}
-use Rattle.text.specs.Text.{firstLine, linesOf}
+use Rattle.text.specs.Text.{bookLimit, firstLine, linesOf}
 use lib.Seq.{length-take-le}
 use Rattle.text.proofs.Lines.{first-inside, first-taken, rest-part}
 use Rattle.book.specs.Deals.{dealsFrom}
 use Rattle.book.specs.Answers.{answersFrom}
 use Rattle.book.specs.Heading.{editionOf, headingOf}
 use Rattle.book.specs.Start.{ownFirst}
-use Rattle.book.specs.Book.{bookEdition, bookLimit, textBehind, bookTests, bookRefusal}
+use Rattle.book.specs.Book.{bookEdition, textBehind, bookTests, bookRefusal}
 use Rattle.base.specs.Writing.{overwrite}
 use Rattle.book.proofs.Refusing.{heading-long, second-wrong, reply-refusal, accepted-tests, enough, refused-results, accepted-results}
 use Rattle.book.proofs.answer.answer_book.Statement.{statement}

@@ -10,12 +10,12 @@ use lib.ListN.{length, take, drop}
 use lib.Seq.{length-take-le}
 use Rattle.base.specs.All.{allPass}
 use Rattle.base.proofs.Tests.{tests}
-use Rattle.text.specs.Text.{firstLine, linesOf}
+use Rattle.text.specs.Text.{bookLimit, firstLine, linesOf}
 use Rattle.text.proofs.Lines.{first-inside, first-taken, rest-part}
 use Rattle.book.specs.Deals.{opensDeal, dealsFrom}
 use Rattle.book.specs.Heading.{headingOf, isWrong}
 use Rattle.book.specs.Start.{ownFirst}
-use Rattle.book.specs.Book.{bookLimit, textBehind, linesBehind, dealsOf, bookTests}
+use Rattle.book.specs.Book.{textBehind, linesBehind, dealsOf, bookTests}
 use Rattle.book.proofs.Refusing.{second-wrong, refused-reply, accepted-reply}
 use Rattle.book.proofs.reply.reply_to.Statement.{statement}
 use Rattle.book.proofs.reply.reply_to.Tie as tie

@@ -1,26 +1,22 @@
 -- `result::rows::put_rows` meets its contract: the lines written and those of the deals left are all. Assumes nothing.
 use Prim.Native.Nat.{ℕ, _+_, _*_, _-_, _≤_, _<_}
-use mathlib.Core.Path.{_≡_, refl, _∙_}
-use mathlib.Core.List.{List, [], _++_, append-assoc, append-nil}
+use mathlib.Core.Path.{_≡_, refl}
+use mathlib.Core.List.{List}
 use native.Mathlib.Nat.{sub-zero}
 use native.Mathlib.Omega.{arith}
-use lib.ListN.{length, length-append, drop, getD}
+use lib.ListN.{length, drop, getD}
 use Rattle.base.proofs.Tests.{tests}
 use Rattle.base.specs.Writing.{Placed}
 use Rattle.result.specs.Result.{row, rows}
+use Rattle.result.proofs.LineByLine.{PartWritten, none-written, line-written, whole-written}
 use Rattle.result.proofs.Lines.{row-short, rows-none, rows-more}
-use Rattle.base.proofs.Writing.{placed-none, placed-joined}
 use Rattle.result.proofs.rows.put_rows.Statement.{statement}
 use Rattle.result.proofs.rows.put_rows.Tie as tie
 
 record Holds (before : List ℕ) (at : ℕ) (results : List ℕ) (deals : ℕ) (out : List ℕ) (place first deal : ℕ) : Type 0 where
-  done : List ℕ
   inside : deal ≤ deals
   four : first ≡ 4 * deal
-  few : length done ≤ 84 * deal
-  same : length out ≡ length before
-  text : rows deals results ≡ done ++ rows (deals - deal) (drop first results)
-  held : Placed at done before out place
+  part : PartWritten (rows deals results) before at (84 * deal) out place (rows (deals - deal) (drop first results))
 
 abbrev Inv-loop : tie.InvT-loop
 Inv-loop out₀ at results deals place₀ first₀ deal₀ out place first deal = Holds out₀ at results deals out place first deal
@@ -36,28 +32,23 @@ module _ (before : List ℕ) (at : ℕ) (results : List ℕ) (deals : ℕ) (out 
   further : (after : List ℕ) (end next : ℕ) → deal < deals → at ≤ length before → next ≡ first + 4 → length after ≡ length out → Placed place line out after end →
       Holds before at results deals after end next (deal + 1)
   further after end next k r n s p =
+      let m : 84 * (deal + 1) ≡ 84 * deal + 84 = omega arith in
       record {
-        done = h .done ++ line;
         inside = omega arith;
         four = omega (arith, h .four, n);
-        few = omega (arith, h .few, length-append (h .done) line, row-short (getD results first 0) (getD results (first + 1) 0) (getD results (first + 2) 0) (getD results (first + 3) 0));
-        same = s ∙ h .same;
-        text = h .text ∙ rw (n, rows-more (deals - (deal + 1)) (deals - deal) first results (omega arith), append-assoc (h .done) line);
-        held = placed-joined at (h .done) line before out after place end r (h .held) p;
+        part = rw (n, m)
+            (line-written _ before at _ out place _ (h .part) line _ after end 84 r
+            (rows-more (deals - (deal + 1)) (deals - deal) first results (omega arith)) (row-short _ _ _ _) s p);
       }
 
-  whole : deals ≤ deal → Placed at (rows deals results) before out place
-  whole k =
-      let e = rows-none (deals - deal) (drop first results) (omega arith) in
-      rw (h .text, e, append-nil) (h .held)
-
 loop-holds : tie.Need-loop-holds Inv-loop μ-loop
-loop-holds c = record { done = []; inside = omega arith; four = refl; few = omega arith; same = refl; text = rw sub-zero; held = placed-none _ _ }
+loop-holds c = record { inside = omega arith; four = refl; part = rw sub-zero (none-written _ _ _) }
 
 put-row-requires : tie.Need-put-row-requires Inv-loop μ-loop
 put-row-requires c κs =
     let i = c .before .before .loop .inv in
-    omega (arith, i .four, i .few, i .same, i .held .ends, c .before .before .before .before .before .pre)
+    let w = i .part in
+    omega (arith, i .four, w .few, w .same, w .held .ends, c .before .before .before .before .before .pre)
 
 add-first : tie.Need-add-first Inv-loop μ-loop
 add-first c =
@@ -80,7 +71,7 @@ same-length : tie.Need-same-length Inv-loop μ-loop
 same-length c = search tests
 
 returns : tie.Need-returns Inv-loop μ-loop
-returns c = whole _ _ _ _ _ _ _ _ (c .before .loop .inv) (c .loop-test .left)
+returns c = whole-written _ _ _ _ _ _ _ (c .before .loop .inv .part) (rows-none _ _ (omega arith))
 
 pub put-rows-spec : {M : Type 1} → statement M
 put-rows-spec =

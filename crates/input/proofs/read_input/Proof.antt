@@ -1,10 +1,10 @@
--- `crmbook::input::read_input` meets its contract: each read puts its bytes behind those that are there. Assumes the contract of reading.
+-- `input::read_input` meets its contract: each read puts its bytes behind those that are there. Assumes the contract of reading.
 use Prim.Native.Nat.{_-_, _≤_}
 use mathlib.Core.Path.{_≡_}
 use lib.ListN.{length}
-use Rattle.base.proofs.Tests.{tests}
-use Rattle.crmbook.proofs.input.read_input.Statement.{statement}
-use Rattle.crmbook.proofs.input.read_input.Tie as tie
+use borrow.Author.Needs.{needs}
+use Rattle.input.proofs.read_input.Statement.{statement}
+use Rattle.input.proofs.read_input.Tie as tie
 
 abbrev Inv-loop : tie.InvT-loop
 Inv-loop buffer₀ count₀ buffer count = (count ≤ length buffer) × (length buffer ≡ length buffer₀)
@@ -13,58 +13,58 @@ abbrev μ-loop : tie.MeasureT-loop
 μ-loop buffer₀ count₀ buffer count = length buffer - count
 
 loop-holds : tie.Need-loop-holds Inv-loop μ-loop
-loop-holds c = search tests
+loop-holds c = search needs
 
 sub-read : tie.Need-sub-read Inv-loop μ-loop
-sub-read c = search tests
+sub-read c = search needs
 
 part-read-start : tie.Need-part-read-start Inv-loop μ-loop
-part-read-start c = search tests
+part-read-start c = search needs
 
 part-read-end : tie.Need-part-read-end Inv-loop μ-loop
-part-read-end c = search tests
+part-read-end c = search needs
 
 read-requires : tie.Need-read-requires Inv-loop μ-loop
-read-requires c κs = search tests
+read-requires c κs = search needs
 
 same-length : tie.Need-same-length Inv-loop μ-loop
-same-length c = search tests
+same-length c = search needs
 
 returns : tie.Need-returns Inv-loop μ-loop
-returns c = search tests
+returns c = search needs
 
 sub-count : tie.Need-sub-count Inv-loop μ-loop
-sub-count c = search tests
+sub-count c = search needs
 
 part-count-start : tie.Need-part-count-start Inv-loop μ-loop
-part-count-start c = search tests
+part-count-start c = search needs
 
 part-count-end : tie.Need-part-count-end Inv-loop μ-loop
-part-count-end c = search tests
+part-count-end c = search needs
 
 count-requires : tie.Need-count-requires Inv-loop μ-loop
-count-requires c κs = search tests
+count-requires c κs = search needs
 
 same-length-2 : tie.Need-same-length-2 Inv-loop μ-loop
-same-length-2 c = search tests
+same-length-2 c = search needs
 
 returns-2 : tie.Need-returns-2 Inv-loop μ-loop
-returns-2 c = search tests
+returns-2 c = search needs
 
 add-count : tie.Need-add-count Inv-loop μ-loop
-add-count c = search tests
+add-count c = search needs
 
 loop-less : tie.Need-loop-less Inv-loop μ-loop
-loop-less c = search tests
+loop-less c = search needs
 
 loop-again : tie.Need-loop-again Inv-loop μ-loop
-loop-again c = search tests
+loop-again c = search needs
 
 same-length-3 : tie.Need-same-length-3 Inv-loop μ-loop
-same-length-3 c = search tests
+same-length-3 c = search needs
 
 returns-3 : tie.Need-returns-3 Inv-loop μ-loop
-returns-3 c = search tests
+returns-3 c = search needs
 
 pub read-input-spec : {M : Type 1} → statement M
 read-input-spec =
