@@ -7,7 +7,8 @@ use crate::acceptance::{open, push_collateral, push_cover};
 use crate::record::{Collateral, Cover, Guarantee, Record, Swap, Terms};
 use crate::{edition, refusal};
 
-const LONGEST: usize = 65_536;
+/// Bytes of the longest book; refusal 10 falls on a longer one.
+pub const LONGEST: usize = 65_536;
 const DEAL_START: &[u8] = b"D\t";
 const MOST_DIGITS: usize = 13;
 /// Place of the sovereign's step among the numbers of a D, G or S line: right
@@ -96,8 +97,8 @@ fn add_by(line: &[u8], record: &mut Record) -> Result<(), u64> {
 }
 
 /// Each line with its line feed, which the last one may lack.
-fn lines(body: &[u8]) -> impl Iterator<Item = &[u8]> + '_ {
-    body.split_inclusive(|&byte| byte == b'\n')
+pub fn lines(text: &[u8]) -> impl Iterator<Item = &[u8]> + '_ {
+    text.split_inclusive(|&byte| byte == b'\n')
 }
 
 fn opens_deal(line: &[u8]) -> bool {

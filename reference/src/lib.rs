@@ -1,8 +1,8 @@
 //! A second implementation of the relief calculator of document 01, with
-//! requests L1, L2, L5, L9 and L11 of document 02, written from the papers alone:
-//! exposure after collateral (E*), value and losses of protection or the ground
-//! for leaving it out, and the risk-weighted amount, for a book of deals or for
-//! one deal.
+//! requests L1, L2, L5, L9, L11 and L14 of document 02, written from the papers
+//! alone: exposure after collateral (E*), value and losses of protection or the
+//! ground for leaving it out, and the risk-weighted amount, for a book of deals or
+//! for one deal; and the repair of a book that came by mail.
 //!
 //! No function panics or overflows, whatever the input: the numbers of a record
 //! are tested before any arithmetic is done on them, and the arithmetic on
@@ -14,6 +14,7 @@ mod acceptance;
 mod answer;
 mod book;
 mod edition;
+mod mail;
 mod maturity;
 mod outcome;
 mod printing;
@@ -32,7 +33,8 @@ pub mod refusal;
 
 pub use acceptance::{add_collateral, add_guarantee, add_swap, open};
 pub use answer::{answer_book, deals, BookReply, DealRead};
+pub use mail::{repair_book, RepairReply};
 pub use outcome::{Outcome, Valuation};
-pub use printing::{printed, printed_reports};
+pub use printing::{printed, printed_repair, printed_reports};
 pub use record::{Collateral, Cover, Guarantee, Record, Swap, Terms, AMOUNT_LIMIT, LIST_LIMIT};
 pub use reporting::{report, Report};

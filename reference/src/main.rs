@@ -1,16 +1,21 @@
-//! Reads a book on standard input and writes its answer, or with the argument
-//! `report` the whole report of each deal.
+//! Reads a book on standard input and writes its answer, with the argument
+//! `report` the whole report of each deal, or with `repair` the book repaired
+//! after its way by mail, and to standard error the lines altered.
 
 use std::io::{self, Read, Write};
 use std::process::ExitCode;
 
+/// What goes to standard output and to standard error.
+type Printed = (Vec<u8>, Vec<u8>);
+
 fn main() -> ExitCode {
     let arguments: Vec<String> = std::env::args().skip(1).collect();
-    let print = match arguments.as_slice() {
-        [] => reference::printed,
-        [word] if word == "report" => reference::printed_reports,
+    let print: fn(&[u8]) -> Printed = match arguments.as_slice() {
+        [] => |book| (reference::printed(book), Vec::new()),
+        [word] if word == "report" => |book| (reference::printed_reports(book), Vec::new()),
+        [word] if word == "repair" => reference::printed_repair,
         _ => {
-            eprintln!("usage: reference [report] < book");
+            eprintln!("usage: reference [report | repair] < book");
             return ExitCode::from(2);
         }
     };
@@ -23,8 +28,13 @@ fn main() -> ExitCode {
     }
 }
 
-fn answer(print: fn(&[u8]) -> Vec<u8>) -> io::Result<()> {
+fn answer(print: fn(&[u8]) -> Printed) -> io::Result<()> {
     let mut book = Vec::new();
     io::stdin().lock().read_to_end(&mut book)?;
-    io::stdout().lock().write_all(&print(&book))
+    let (output, error) = print(&book);
+    let mut standard_output = io::stdout().lock();
+    standard_output.write_all(&output)?;
+    // A repaired book may end without a line feed and would wait in the buffer.
+    standard_output.flush()?;
+    io::stderr().lock().write_all(&error)
 }

@@ -1,9 +1,12 @@
-//! What is printed for a book: the answer of `crmbook` (01: The book), and the
-//! whole report of each deal in a form of this crate's own.
+//! What is printed for a book: the answer of `crmbook` (01: The book), the whole
+//! report of each deal in a form of this crate's own, and the repair of a book
+//! that came by mail (02: L14).
 
 use std::fmt::{self, Display, Formatter};
 
 use crate::answer::{answer_book, deals, DealRead, NUMBERS_A_DEAL};
+use crate::book::LONGEST;
+use crate::mail::repair_book;
 use crate::outcome::{Outcome, Valuation};
 use crate::record::{Cover, Record};
 use crate::reporting::evaluated;
@@ -32,6 +35,22 @@ pub fn printed_reports(book: &[u8]) -> Vec<u8> {
     text.into_bytes()
 }
 
+/// What is printed for a book that came by mail: to standard output the repaired
+/// book, to standard error the number of each altered line. Room for the longest
+/// book is lent, and no repair is longer or alters more lines than it has bytes,
+/// so that 10 is the one refusal.
+pub fn printed_repair(book: &[u8]) -> (Vec<u8>, Vec<u8>) {
+    let mut repaired = vec![0; LONGEST];
+    let mut altered = vec![0; LONGEST];
+    let reply = repair_book(book, &mut repaired, &mut altered);
+    repaired.truncate(reply.bytes);
+    let text = match reply.refusal {
+        0 => AlteredLines(&altered[..reply.lines]).to_string(),
+        refusal => refused(refusal),
+    };
+    (repaired, text.into_bytes())
+}
+
 fn refused(refusal: u64) -> String {
     format!("REFUSED\t{refusal}\n")
 }
@@ -46,6 +65,15 @@ impl Display for Answer<'_> {
             writeln!(out, "{}\t{}\t{}\t{}", four[0], four[1], four[2], four[3])?;
         }
         Ok(())
+    }
+}
+
+/// The numbers of the lines that a repair altered.
+struct AlteredLines<'a>(&'a [u64]);
+
+impl Display for AlteredLines<'_> {
+    fn fmt(&self, out: &mut Formatter) -> fmt::Result {
+        self.0.iter().try_for_each(|line| writeln!(out, "{line}"))
     }
 }
 

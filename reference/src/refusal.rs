@@ -1,4 +1,4 @@
-//! The refusals by number (01: The four operations, The book; 02: L5).
+//! The refusals by number (01: The four operations, The book; 02: L5, L14).
 
 /// Amount over the limit.
 pub const AMOUNT: u64 = 1;
@@ -26,5 +26,9 @@ pub const LINE: u64 = 11;
 pub const SECOND_LINE: u64 = 12;
 /// Results list too short.
 pub const RESULTS: u64 = 13;
+/// Buffer too short for the repaired book.
+pub const REPAIRED: u64 = 20;
 /// Record that opening and adding would not have built.
 pub const RECORD: u64 = 40;
+/// List too short for the numbers of the altered lines.
+pub const ALTERED: u64 = 41;

@@ -6,15 +6,6 @@ use common::*;
 use reference::{printed, printed_reports, report, Collateral, Guarantee, Terms};
 use Bare::{LeftOut, Valued};
 
-const EXAMPLE: &str = "\
-CRM 1
-D 1000000 3 0 978 3 1 1800 1 0 0
-C 400000 2 1 720 978 1800 1800 1 1 1 0
-G 200000 1 1 978 1800 1800 1 1 1
-D 500 2 7 840 1 1 30 1 0 0
-D 900 4 0 978 3 1 90 1 0 0
-";
-
 #[test]
 fn example_book() {
     let answer = "\

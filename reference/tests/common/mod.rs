@@ -3,8 +3,8 @@
 #![allow(dead_code)] // each test file uses some of these
 
 use reference::{
-    add_collateral, add_guarantee, add_swap, answer_book, open, printed_reports, report,
-    Collateral, Cover, Guarantee, Outcome, Record, Swap, Terms, Valuation,
+    add_collateral, add_guarantee, add_swap, answer_book, open, printed_reports, repair_book,
+    report, Collateral, Cover, Guarantee, Outcome, Record, RepairReply, Swap, Terms, Valuation,
 };
 
 pub const EDITIONS: [u64; 3] = [1, 2, 3];
@@ -566,9 +566,43 @@ pub fn book_of(terms: &Terms, items: &[Collateral]) -> String {
     header(terms.edition) + &terms_line(terms) + &items
 }
 
+/// The example book of document 01.
+pub const EXAMPLE: &str = "\
+CRM 1
+D 1000000 3 0 978 3 1 1800 1 0 0
+C 400000 2 1 720 978 1800 1800 1 1 1 0
+G 200000 1 1 978 1800 1800 1 1 1
+D 500 2 7 840 1 1 30 1 0 0
+D 900 4 0 978 3 1 90 1 0 0
+";
+
 /// The paper shows tabs as spaces.
 pub fn tabbed(text: &str) -> Vec<u8> {
     text.replace(' ', "\t").into_bytes()
+}
+
+/// A byte and a number that no repaired book of the tests holds.
+pub const FILL: (u8, u64) = (0xEE, u64::MAX);
+
+/// Repairs with buffers of the lengths; gives the reply, and both as they are
+/// then.
+pub fn repair_with(book: &[u8], room: [usize; 2]) -> (RepairReply, Vec<u8>, Vec<u64>) {
+    let mut repaired = vec![FILL.0; room[0]];
+    let mut altered = vec![FILL.1; room[1]];
+    let reply = repair_book(book, &mut repaired, &mut altered);
+    (reply, repaired, altered)
+}
+
+/// The repaired book and the altered lines. Room is left in both buffers, where
+/// nothing may be written.
+pub fn repaired(book: &[u8]) -> (Vec<u8>, Vec<u64>) {
+    let (reply, mut text, mut lines) = repair_with(book, [book.len() + 9; 2]);
+    assert_eq!(reply.refusal, 0);
+    assert!(text[reply.bytes..].iter().all(|&byte| byte == FILL.0));
+    assert!(lines[reply.lines..].iter().all(|&line| line == FILL.1));
+    text.truncate(reply.bytes);
+    lines.truncate(reply.lines);
+    (text, lines)
 }
 
 /// Marsaglia's xorshift generator.
