@@ -1,8 +1,9 @@
-// The program cases: runs the lines of its files through opening, adding, reporting and answering, and prints each reply
-// whole. The file stdout beside src/ holds what document 01 gives.
+// The program cases: runs the lines of its files through opening, adding, reporting, answering and repairing, and prints each
+// reply whole. The file stdout beside src/ holds what documents 01 and 02 give.
 ghost use Rattle.io.specs.Counts.{Counts};
 
 mod fields;
+mod mailed;
 mod operations;
 mod show;
 
@@ -25,7 +26,7 @@ fn read(name: &[u8], buffer: &mut [u8]) -> usize
 }
 
 // Runs a line on the record and on the bytes in front of a book; how many these then are. The first letter of its word says
-// which operation it is. So many places are lent of the record, and of a list for its report.
+// which operation it is. So many places are lent of the record or of a list of altered lines, and of a list for a report.
 fn run(
     line: &[u8],
     record: &mut [u64; PLACES],
@@ -55,6 +56,11 @@ fn run(
             operations::answer(front, count, numbers[1]);
         }
         b'p' => operations::print(front, held),
+        b'm' => {
+            let count = fields::put(front, held, line);
+            mailed::repair(front, count, numbers[1], lent[0]);
+        }
+        b'n' => mailed::notice(front, held),
         b'e' => return 0,
         _ => {}
     }

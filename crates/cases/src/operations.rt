@@ -83,12 +83,16 @@ pub fn answer(bytes: &[u8], count: usize, places: u64) {
 }
 
 // A number that depends on each of so many bytes and on their order.
-fn sum(bytes: &[u8; TEXT], count: usize) -> u64 {
+pub fn sum(bytes: &[u8], count: usize) -> u64 {
     let mut sum: u64 = 0;
-    for i in 0..least(count, TEXT) {
+    for i in 0..least(count, bytes.len()) {
         sum = sum % 1_000_000_007 * 31 + wide(bytes[i]) % 256;
     }
     sum
+}
+
+fn text_sum(text: &[u8; TEXT], count: usize) -> u64 {
+    sum(text, count)
 }
 
 // What the program crmbook prints for so many bytes.
@@ -99,7 +103,7 @@ pub fn print(bytes: &[u8], count: usize) {
     let front: usize = 0;
     let printed = response::respond(&bytes[front..length], &mut results, &mut out);
     number(b"= printed", printed as u64);
-    number(b" sum", sum(&out, printed));
+    number(b" sum", text_sum(&out, printed));
     number(b" of", length as u64);
     show::text(b" bytes\n");
 }

@@ -131,17 +131,37 @@ fn sum(list: &[u64]) -> u64 {
     sum
 }
 
-// A results list, four numbers to a deal; of a long one the ends, and what tells it from any other.
+// The ends of a long list, and what tells it from any other.
+fn ends(list: &[u64], width: usize)
+    requires { ⌜ (8 ≤ length (now list)) × (1 ≤ width) ⌝ }
+{
+    let places = list.len();
+    rows(list, 0, 8, width);
+    text(b" ..");
+    rows(list, places - 8, places, width);
+    number(b" | places", places as u64);
+    number(b" sum", sum(list));
+}
+
+// A results list, four numbers to a deal; of a long one the ends.
 pub fn results(list: &[u64]) {
     let places = list.len();
     if places <= 40 {
         rows(list, 0, places, 4);
     } else {
-        rows(list, 0, 8, 4);
-        text(b" ..");
-        rows(list, places - 8, places, 4);
-        number(b" | places", places as u64);
-        number(b" sum", sum(list));
+        ends(list, 4);
     }
     text(b"\n");
+}
+
+// A list of which so many places are written: these, and what stands behind them; of a long one the ends.
+pub fn written(list: &[u64], count: u64) {
+    let places = list.len();
+    if places <= 40 {
+        let end = least(count as usize, places);
+        rows(list, 0, end, 8);
+        rows(list, end, places, 1);
+    } else {
+        ends(list, 8);
+    }
 }

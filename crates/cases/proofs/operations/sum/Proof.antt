@@ -19,8 +19,8 @@ loop-holds c = search tests
 mul-sum : tie.Need-mul-sum Inv-loop μ-loop
 mul-sum c = search tests
 
-element-copy-out-wide : tie.Need-element-copy-out-wide Inv-loop μ-loop
-element-copy-out-wide c = search tests
+shared-slice-read-wide : tie.Need-shared-slice-read-wide Inv-loop μ-loop
+shared-slice-read-wide c = search tests
 
 wide-requires : tie.Need-wide-requires Inv-loop μ-loop
 wide-requires c κs = search tests
@@ -49,7 +49,7 @@ sum-spec =
     least-requires
     loop-holds
     mul-sum
-    element-copy-out-wide
+    shared-slice-read-wide
     wide-requires
     add-sum
     add-i
