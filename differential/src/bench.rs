@@ -4,6 +4,7 @@ use std::hint::black_box;
 use std::time::{Duration, Instant};
 
 use crate::measured::answer;
+use crate::repair_bench;
 use crate::shapes::{self, Books, Measured};
 use crate::sides::{Side, SIDES};
 use crate::table::grouped;
@@ -51,7 +52,9 @@ pub fn run(rounds: u64, editions: &[u64]) -> Result<(), String> {
         "By count of items, half of them guarantees, in {} deals",
         shapes::DEALS_BY_ITEMS
     );
-    growth(&shapes::by_items(editions), rounds)
+    growth(&shapes::by_items(editions), rounds)?;
+    println!();
+    repair_bench::run(rounds)
 }
 
 fn full(books: &Books, rounds: u64) -> Result<(), String> {

@@ -10,6 +10,7 @@ use reference::DealRead;
 use crate::changes;
 use crate::floors;
 use crate::heading::{another, edition_of};
+use crate::lent::{Lent, MARGIN};
 use crate::line::{count_deals, lines, opens_deal};
 use crate::operations;
 use crate::random::Random;
@@ -21,10 +22,12 @@ use crate::tally::Tally;
 /// Where the two disagree.
 pub struct Difference {
     pub about: String,
-    /// The deal's serial and lines, or the record's numbers.
+    /// The deal's serial and lines, the record's numbers, or the mailed text.
     pub deal: String,
     pub proved: String,
     pub reference: String,
+    /// What came by mail, where that differs and not the book.
+    pub text: Option<Vec<u8>>,
 }
 
 pub fn differ(about: &str, deal: String, proved: impl Debug, reference: impl Debug) -> Difference {
@@ -33,28 +36,7 @@ pub fn differ(about: &str, deal: String, proved: impl Debug, reference: impl Deb
         deal,
         proved: format!("{proved:?}"),
         reference: format!("{reference:?}"),
-    }
-}
-
-/// A list to be lent, between two margins; each of its numbers is a mark that
-/// no answer gives.
-pub struct Lent {
-    pub numbers: Vec<u64>,
-}
-
-const MARGIN: usize = 8;
-
-impl Lent {
-    pub fn new(length: usize) -> Self {
-        let numbers = (0..length + 2 * MARGIN).map(|place| !(place as u64 * 0x0101_0101));
-        Lent {
-            numbers: numbers.collect(),
-        }
-    }
-
-    pub fn list(&mut self) -> &mut [u64] {
-        let end = self.numbers.len() - MARGIN;
-        &mut self.numbers[MARGIN..end]
+        text: None,
     }
 }
 

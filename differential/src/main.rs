@@ -1,6 +1,8 @@
-//! Compares the proved library with the second implementation on random books
-//! and records and on the conformance books, and measures both.
+//! Compares the proved library with the second implementation on random books,
+//! records and mailed texts and on the conformance books, and measures both.
 
+mod alike;
+mod altered_lines;
 mod answers;
 mod arguments;
 mod bands;
@@ -24,12 +26,19 @@ mod heading;
 mod held;
 mod items;
 mod left_out;
+mod lent;
 mod life_edges;
 mod line;
 mod losing;
 mod loss_mistakes;
 mod losses;
+mod mail;
+mod mail_laws;
+mod mail_limits;
+mod mail_runs;
+mod mailed;
 mod malformed;
+mod mangled;
 mod measured;
 mod operations;
 mod order;
@@ -39,6 +48,8 @@ mod periods;
 mod proved_prints;
 mod random;
 mod records;
+mod repair_bench;
+mod repairs;
 mod report_places;
 mod restructuring;
 mod revalued;

@@ -3,12 +3,13 @@
 
 use hadlephoga::{Record, ITEMS, RECORD_LENGTH};
 
-use crate::compare::{self, around, differ, Difference, Lent};
+use crate::compare::{self, around, differ, Difference};
 use crate::days;
 use crate::editions;
 use crate::full_list;
 use crate::heading::EDITION;
 use crate::held::{self, GUARANTEE, INSTRUMENTS};
+use crate::lent::Lent;
 use crate::line::Line;
 use crate::random::Random;
 use crate::records::{self, changed, EDGES};

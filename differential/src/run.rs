@@ -1,4 +1,4 @@
-//! Many random books and records through both implementations.
+//! Many random books, records and mailed texts through both implementations.
 
 use std::path::PathBuf;
 use std::time::{Duration, Instant};
@@ -6,9 +6,11 @@ use std::time::{Duration, Instant};
 use crate::arguments::Run;
 use crate::books::{self, Book};
 use crate::compare::{self, Difference};
+use crate::mailed::{self, Mailed};
 use crate::operations;
 use crate::random::Random;
 use crate::records;
+use crate::repairs;
 use crate::sides::SIDES;
 use crate::table;
 use crate::tally::Tally;
@@ -40,7 +42,8 @@ pub fn run(options: &Run) -> bool {
     complete(&tally, options.require_all)
 }
 
-/// One book, then records, then operations; all of it from the seed and the book's number.
+/// One book, then records, operations and a text that came by mail; all of it from the seed and
+/// the book's number.
 fn trial(seed: u64, number: u64, book: &Book, tally: &mut Tally) -> Result<(), Difference> {
     tally.counts.books += 1;
     *tally
@@ -54,7 +57,9 @@ fn trial(seed: u64, number: u64, book: &Book, tally: &mut Tally) -> Result<(), D
         let record = records::record(random);
         compare::record(random, &record, tally)?;
     }
-    operations::operations(random, tally)
+    operations::operations(random, tally)?;
+    let mailed = mailed::mailed(seed, number, &book.bytes);
+    repairs::repairs(random, &mailed, &book.bytes, tally)
 }
 
 fn complete(tally: &Tally, require_all: bool) -> bool {
@@ -92,14 +97,27 @@ pub fn one_book(seed: u64, number: u64) -> bool {
             eprintln!("  {answer:?}");
         }
     }
+    show_mailed(&mailed::mailed(seed, number, &book.bytes));
     match trial(seed, number, &book, &mut Tally::new()) {
-        Ok(()) => eprintln!("no difference, records of this number among them"),
+        Ok(()) => eprintln!("no difference, records and mailed text of this number among them"),
         Err(difference) => {
             report_difference(seed, number, &book, &difference);
             return false;
         }
     }
     written.is_ok()
+}
+
+/// What came by mail beside the book, and what each side says of it with room for all.
+fn show_mailed(mailed: &Mailed) {
+    let text = &mailed.bytes;
+    let length = text.len();
+    eprintln!("mailed: {}, {length} bytes", mailed.kind.name());
+    for side in SIDES {
+        let (mut repaired, mut altered) = (vec![0; length], vec![0; length]);
+        let reply = side.repair_book(text, &mut repaired, &mut altered);
+        eprintln!("{}: {reply:?}", side.name());
+    }
 }
 
 fn report_difference(seed: u64, number: u64, book: &Book, difference: &Difference) {
@@ -111,10 +129,13 @@ fn report_difference(seed: u64, number: u64, book: &Book, difference: &Differenc
     eprintln!("again: differential --seed {seed} --book {number}");
     let target = PathBuf::from(concat!(env!("CARGO_MANIFEST_DIR"), "/../target"));
     let file = target.join("differential-failure.book");
-    let written =
-        std::fs::create_dir_all(&target).and_then(|()| std::fs::write(&file, &book.bytes));
+    let (what, bytes) = match &difference.text {
+        Some(text) => ("mailed text", text),
+        None => ("book", &book.bytes),
+    };
+    let written = std::fs::create_dir_all(&target).and_then(|()| std::fs::write(&file, bytes));
     match written {
-        Ok(()) => eprintln!("the book is in target/differential-failure.book"),
-        Err(error) => eprintln!("the book could not be written: {error}"),
+        Ok(()) => eprintln!("the {what} is in target/differential-failure.book"),
+        Err(error) => eprintln!("the {what} could not be written: {error}"),
     }
 }

@@ -1,7 +1,7 @@
 //! Both implementations behind the same calls on the same numbers.
 
 use hadlephoga::{
-    BookReply, Collateral, HeldGuarantee, Record, Terms, OUTCOME_WIDTH, RECORD_LENGTH,
+    BookReply, Collateral, HeldGuarantee, Record, RepairReply, Terms, OUTCOME_WIDTH, RECORD_LENGTH,
     REPORT_LENGTH,
 };
 use reference::{Cover, Outcome, Valuation};
@@ -31,6 +31,20 @@ impl Side {
                 let reference::BookReply { refusal, deals } = reference::answer_book(book, results);
                 let deals = deals as u64;
                 BookReply { refusal, deals }
+            }
+        }
+    }
+
+    pub fn repair_book(self, book: &[u8], repaired: &mut [u8], altered: &mut [u64]) -> RepairReply {
+        match self {
+            Side::Proved => hadlephoga::repair_book_numbers(book, repaired, altered),
+            Side::Reference => {
+                let reply = reference::repair_book(book, repaired, altered);
+                RepairReply {
+                    refusal: reply.refusal,
+                    bytes: reply.bytes as u64,
+                    lines: reply.lines as u64,
+                }
             }
         }
     }

@@ -5,10 +5,12 @@ use std::collections::BTreeMap;
 use crate::answers::OTHER;
 use crate::cells::Cells;
 use crate::held::WITH_CONDITION;
+use crate::mail::Mail;
 use crate::tally::{Counts, Tally};
 
 pub fn print(tally: &Tally) {
     counted(&tally.counts);
+    mailed(&tally.mail);
     println!();
     let answers = &tally.answers;
     let by_number = [
@@ -56,6 +58,16 @@ fn counted(counts: &Counts) {
     row("guarantees valued", counts.valued_guarantees);
     row("swaps valued", counts.valued_swaps);
     row("numbers compared", counts.numbers);
+}
+
+fn mailed(mail: &Mail) {
+    row("mailed texts", mail.texts.values().sum());
+    for (kind, count) in &mail.texts {
+        row(&format!("  {kind}"), *count);
+    }
+    row("  repaired", mail.repaired);
+    row("  books that came back", mail.back);
+    row("bytes of repairs compared", mail.bytes);
 }
 
 /// A row for each family, and one for all of them.

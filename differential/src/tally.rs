@@ -20,6 +20,7 @@ use crate::left_out::LeftOut;
 use crate::line::{self, Line};
 use crate::loss_mistakes;
 use crate::losses::Losses;
+use crate::mail::Mail;
 use crate::order::Order;
 use crate::parties::Parties;
 use crate::report_places::ReportPlaces;
@@ -71,6 +72,7 @@ pub struct Tally {
     pub loss_mistakes: Cells,
     pub left_out: LeftOut,
     pub report_places: ReportPlaces,
+    pub mail: Mail,
 }
 
 impl Tally {
@@ -110,6 +112,7 @@ impl Tally {
             ),
             left_out: LeftOut::new(),
             report_places: ReportPlaces::new(),
+            mail: Mail::new(),
         }
     }
 
@@ -132,6 +135,7 @@ impl Tally {
         families.extend([&self.loss_mistakes]);
         families.extend(self.left_out.families());
         families.extend(self.report_places.families());
+        families.extend(self.mail.families());
         families
     }
 
@@ -274,11 +278,11 @@ mod tests {
         let families = tally.families();
         assert_eq!(
             families.len(),
-            1 + 11 + 2 + 4 + 2 + 4 + 2 + 3 + 2 + 4 + 6 + 3 + 2 + 4 + 1 + 2 + 3
+            1 + 11 + 2 + 4 + 2 + 4 + 2 + 3 + 2 + 4 + 6 + 3 + 2 + 4 + 1 + 2 + 3 + 12
         );
         assert_eq!(
             families.iter().map(|cells| cells.all()).sum::<usize>(),
-            11_096
+            11_622
         );
     }
 }
