@@ -20,6 +20,10 @@ and-first a b p = rw p
 pub and-second : (a b : Bool) → a ≡ true → b ≡ false → (a && b) ≡ false
 and-second a b p q = rw (p, q)
 
+pub or-both : (a b : Bool) → (a || b) ≡ false → (a ≡ false) × (b ≡ false)
+or-both true b e = absurd (never refl e)
+or-both false b e = (refl, e)
+
 pub or-false : (a b : Bool) → a ≡ false → b ≡ false → (a || b) ≡ false
 or-false a b p q = rw (p, q)
 

@@ -5,7 +5,7 @@
 -- list is shorter than the altered lines; both buffers are then untouched.)"
 --
 -- The contract of `mail::repair_book` asks nothing of the caller. It says that the reply, the second buffer at exit and the list at exit are
--- `repairReply`, `bufferAfter` and `numbersAfter`; the record `RepairOutcome` is these three. That of `hadlephoga::hadlephoga_repair_book` says the same of its
+-- `repairReply`, `bufferAfter` and `numbersAfter`, as the record `RepairOutcome` (`outcome`). That of `hadlephoga::hadlephoga_repair_book` says the same of its
 -- numbers. That of `repairing::respond` says that `bookWritten` and `noticeWritten` stand at the front of its buffers, which `crmrepair` writes to standard
 -- output and standard error. Bytes are numbers: 32 is a space, 9 a tab, 13 a carriage return, 10 a line feed.
 use Prim.Native.Nat.{ℕ, suc, _+_, _<_, _≤_}
@@ -13,10 +13,9 @@ use mathlib.Core.Path.{_≡_}
 use mathlib.Core.Bool.{true, false, not, _&&_}
 use mathlib.Core.List.{List, [], _∷_, _++_, map}
 use lib.Dec.{eqb, leb, ltb}
-use lib.ListN.{getD, length}
+use lib.ListN.{drop, getD, length, replicate}
 use Rattle.base.specs.All.{allPass}
 use Rattle.base.specs.FirstMet.{ExactFor, _when_}
-use Rattle.base.specs.Writing.{overwrite}
 use Rattle.text.specs.Bytes.{bytes}
 use Rattle.text.specs.Decimal.{decimal}
 use Rattle.text.specs.Text.{linesOf}
@@ -24,25 +23,34 @@ use Rattle.result.specs.List.{numberLines}
 use Rattle.result.specs.Numbers.{numberText}
 use Rattle.response.specs.Response.{printed}
 use Rattle.mail.specs.Feeds.{feeds}
-use Rattle.mail.specs.Listed.{listed, noReturnBeforeFeed, noSpace}
+use Rattle.mail.specs.Listed.{listed}
 use Rattle.mail.specs.Mail.{alteredLines, repaired}
 use Rattle.mail.specs.Mailed.{Mailed}
 use Rattle.mail.specs.OnRuns.{OnRuns}
 use Rattle.mail.specs.Reply.{RepairOutcome, bufferAfter, numbersAfter, repairRefusal, repairReply}
+use Rattle.mail.specs.declared.RepairReply.{RepairReply}
 use Rattle.repairing.specs.Repairing.{bookWritten, noticeWritten}
 
 pub record MailedBooks : Type 0 where
   -- EACH RUN
 
-  -- each run of spaces becomes one tab, each run of carriage returns that ends at a line feed goes, and all else stays (mail/specs/OnRuns). This says
-  -- it of every text: one function alone does so
+  -- of no bytes there are none; each run of spaces, of one or of many, becomes one tab; every carriage return of a run that ends at a line feed goes; a
+  -- run of them that ends at another byte, or where the text ends, stays, and so does every other byte. An empty text reads as 0 at its first place
+  pub of-nothing : repaired [] ≡ []
+  pub spaces : (n : ℕ) (rest : List ℕ) → eqb (getD rest 0 0) 32 ≡ false → repaired (replicate (suc n) 32 ++ rest) ≡ 9 ∷ repaired rest
+  pub returns : (n : ℕ) (rest : List ℕ) → repaired (replicate n 13 ++ 10 ∷ rest) ≡ 10 ∷ repaired rest
+  pub returns-stay : (n : ℕ) (rest : List ℕ) → eqb (getD rest 0 0) 13 ≡ false → eqb (getD rest 0 0) 10 ≡ false →
+      repaired (replicate n 13 ++ rest) ≡ replicate n 13 ++ repaired rest
+  pub others : (b : ℕ) (rest : List ℕ) → eqb b 32 ≡ false → eqb b 13 ≡ false → repaired (b ∷ rest) ≡ b ∷ repaired rest
+  -- these five (mail/specs/OnRuns) say it of every text: one function alone does so
   pub runs : OnRuns repaired
   pub only : (f : List ℕ → List ℕ) → OnRuns f → (text : List ℕ) → f text ≡ repaired text
-  -- so what a mail program did to a right book (mail/specs/Mailed says what that is) is undone ..
+  -- so what a mail program did to a book whose every line can be read (mail/specs/Mailed says what it did) is undone ..
   pub undone : {sent came : List ℕ} → Mailed sent came → repaired came ≡ sent
-  -- .. and this is meant of all texts that come back without a carriage return ..
-  pub made-by-mail : (came : List ℕ) → listed 13 (repaired came) ≡ false → Mailed (repaired came) came
-  -- .. and where what came has 65,536 bytes at most, `crmrepair < came | crmbook` prints what `crmbook < sent` does, since the pipe hands on what was sent
+  -- .. and that is said of every text whose repair has no carriage return: each could have been made by mail from its repair ..
+  pub made-by-mail : (came : List ℕ) → ((i : ℕ) → eqb (getD (repaired came) i 0) 13 ≡ false) → Mailed (repaired came) came
+  -- .. and where what came has 65,536 bytes at most, the pipe in `crmrepair < came | crmbook` hands on what was sent, so it prints what `crmbook < sent` does
+  -- (`printed`, by the contract of `response::respond`)
   pub handed-on : {sent came : List ℕ} → Mailed sent came → length came ≤ 65536 → bookWritten came ≡ sent
   pub answered : {sent came : List ℕ} → Mailed sent came → length came ≤ 65536 → printed (bookWritten came) ≡ printed sent
   -- THE LINES IT ALTERED
@@ -55,23 +63,31 @@ pub record MailedBooks : Type 0 where
   pub in-the-list : (text : List ℕ) (i : ℕ) → i < length (linesOf text) →
       (listed (1 + i) (alteredLines text) ≡ true → getD (linesOf (repaired text)) i [] ≡ getD (linesOf text) i [] → ⊥)
       × ((getD (linesOf (repaired text)) i [] ≡ getD (linesOf text) i [] → ⊥) → listed (1 + i) (alteredLines text) ≡ true)
-  -- rising, each once, none below 1 and none above the count of lines
+  -- rising, each once, none below 1 and none above the count of lines, of which there are no more than bytes
   pub rising : (text : List ℕ) (i j : ℕ) → i < j → j < length (alteredLines text) → getD (alteredLines text) i 0 < getD (alteredLines text) j 0
   pub none-below : (text : List ℕ) (i : ℕ) → i < length (alteredLines text) → 1 ≤ getD (alteredLines text) i 0
   pub none-past : (text : List ℕ) (k : ℕ) → length (linesOf text) < k → listed k (alteredLines text) ≡ false
-  -- line feeds are neither made nor lost, so line numbers are the same before and after: the lines are repaired one by one
+  pub few-lines : (text : List ℕ) → length (linesOf text) ≤ length text
+  -- line feeds are neither made nor lost, so line numbers are the same before and after: the lines are repaired one by one. What `feeds` counts:
+  pub feeds-none : feeds [] ≡ 0
+  pub feeds-more : (rest : List ℕ) → feeds (10 ∷ rest) ≡ suc (feeds rest)
+  pub feeds-same : (b : ℕ) (rest : List ℕ) → eqb b 10 ≡ false → feeds (b ∷ rest) ≡ feeds rest
   pub feeds-kept : (text : List ℕ) → feeds (repaired text) ≡ feeds text
   pub lines-kept : (text : List ℕ) → length (linesOf (repaired text)) ≡ length (linesOf text)
   pub line-by-line : (text : List ℕ) → linesOf (repaired text) ≡ map repaired (linesOf text)
   -- "A BOOK WITH NEITHER IS COPIED WITH AN EMPTY LIST, AND THE TOOL RUN ON ITS OWN OUTPUT ALTERS NOTHING"
 
-  -- whatever the list, one without places too
-  pub copied : (book buffer list : List ℕ) → noSpace book ≡ true → noReturnBeforeFeed book ≡ true → length book ≤ 65536 → length book ≤ length buffer →
-      RepairOutcome book buffer list (record { refusal = 0; bytes = length book; lines = 0 }) (overwrite book buffer) list
+  -- no place holds a space, and none a carriage return with a line feed right behind it; whatever the list, one without places too
+  pub copied : (book buffer list : List ℕ) →
+      ((i : ℕ) → eqb (getD book i 0) 32 ≡ false) → ((i : ℕ) → (eqb (getD book i 0) 13 && eqb (getD book (suc i) 0) 10) ≡ false) →
+      length book ≤ 65536 → length book ≤ length buffer →
+      RepairOutcome book buffer list (record { refusal = 0; bytes = length book; lines = 0 }) (book ++ drop (length book) buffer) list
   -- and no other is copied
-  pub copied-only : (text : List ℕ) → repaired text ≡ text → (noSpace text ≡ true) × (noReturnBeforeFeed text ≡ true)
+  pub copied-only : (text : List ℕ) → repaired text ≡ text →
+      ((i : ℕ) → eqb (getD text i 0) 32 ≡ false) × ((i : ℕ) → (eqb (getD text i 0) 13 && eqb (getD text (suc i) 0) 10) ≡ false)
   pub again : (book buffer list : List ℕ) → length book ≤ 65536 → length (repaired book) ≤ length buffer →
-      RepairOutcome (repaired book) buffer list (record { refusal = 0; bytes = length (repaired book); lines = 0 }) (overwrite (repaired book) buffer) list
+      RepairOutcome (repaired book) buffer list (record { refusal = 0; bytes = length (repaired book); lines = 0 })
+      (repaired book ++ drop (length (repaired book)) buffer) list
   -- REFUSALS, each exactly where it is due
 
   pub due : (book : List ℕ) (room places : ℕ) →
@@ -84,7 +100,11 @@ pub record MailedBooks : Type 0 where
   -- any other: 0 and both lengths, both written from the front, and nothing behind
   pub accepted : (book buffer list : List ℕ) → repairRefusal book (length buffer) (length list) ≡ 0 →
       (repairReply book (length buffer) (length list) ≡ record { refusal = 0; bytes = length (repaired book); lines = length (alteredLines book) })
-      × ((bufferAfter book buffer (length list) ≡ overwrite (repaired book) buffer) × (numbersAfter book (length buffer) list ≡ overwrite (alteredLines book) list))
+      × ((bufferAfter book buffer (length list) ≡ repaired book ++ drop (length (repaired book)) buffer)
+      × (numbersAfter book (length buffer) list ≡ alteredLines book ++ drop (length (alteredLines book)) list))
+  -- and whoever has the outcome has the reply and both lists at exit
+  pub outcome : {book buffer list : List ℕ} {reply : RepairReply} {buffer′ list′ : List ℕ} → RepairOutcome book buffer list reply buffer′ list′ →
+      (reply ≡ repairReply book (length buffer) (length list)) × ((buffer′ ≡ bufferAfter book buffer (length list)) × (list′ ≡ numbersAfter book (length buffer) list))
   -- of a book of 65,536 bytes at most: a buffer as long as the book, and a list with a place for each of its lines, are enough
   pub enough : (book : List ℕ) (room places : ℕ) → length book ≤ 65536 → length book ≤ room → length (linesOf book) ≤ places → repairRefusal book room places ≡ 0
   -- THE PROGRAM
@@ -92,12 +112,15 @@ pub record MailedBooks : Type 0 where
   -- it writes the repaired book of one of up to 65,536 bytes, and the altered lines' numbers, one a line
   pub program : (book : List ℕ) → length book ≤ 65536 →
       (bookWritten book ≡ repaired book) × (noticeWritten book ≡ numberLines (length (alteredLines book)) (alteredLines book))
+  -- run on what it wrote, it writes that again and says nothing
+  pub program-again : (book : List ℕ) → length book ≤ 65536 → (bookWritten (bookWritten book) ≡ bookWritten book) × (noticeWritten (bookWritten book) ≡ [])
   -- of a longer one it writes nothing, and its refusal
   pub program-refuses : (book : List ℕ) → 65536 < length book → (bookWritten book ≡ []) × (noticeWritten book ≡ bytes "REFUSED\t10\n")
   -- each number is followed by a line feed ..
   pub no-numbers : (numbers : List ℕ) → numberLines 0 numbers ≡ []
   pub one-a-line : (k n : ℕ) (numbers : List ℕ) → numberLines (suc k) (n ∷ numbers) ≡ numberText n ++ 10 ∷ numberLines k numbers
-  -- .. and is digits alone, which read back as the number, and start with no zero
+  -- .. and is digits alone, which read back as the number where it has 64 bits, and start with no zero where it is 1 or more; those of lines are from 1 to
+  -- 65,536 (`none-below`, `none-past`, `few-lines`)
   pub digits : (n : ℕ) → allPass (numberText n) (λ b. leb 48 b && leb b 57) ≡ true
   pub read-back : (n : ℕ) → n < 18446744073709551616 → decimal (numberText n) ≡ n
   pub no-leading-zero : (n : ℕ) → 0 < n → n < 18446744073709551616 → getD (numberText n) 0 0 ≡ 48 → ⊥

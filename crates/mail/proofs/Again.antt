@@ -1,19 +1,20 @@
 -- Repairing a book that needs none: its own output, and a book with neither. 02: L14. Assumes nothing.
-use Prim.Native.Nat.{ℕ, suc, _≤_}
+use Prim.Native.Nat.{ℕ, zero, suc, _≤_}
 use mathlib.Core.Path.{_≡_, refl, sym, ap, _∙_}
-use mathlib.Core.Bool.{Bool, true, false, not}
+use mathlib.Core.Bool.{Bool, true, false, _&&_}
 use mathlib.Core.List.{List, [], _∷_, map}
 use native.Mathlib.Omega.{arith}
-use lib.ListN.{length}
+use lib.Dec.{eqb}
+use lib.ListN.{getD, length}
 use Rattle.base.specs.Writing.{overwrite}
 use Rattle.base.proofs.Choice.{if-false, never}
-use Rattle.base.proofs.Every.{both}
+use Rattle.base.proofs.Tests.{or-both}
 use Rattle.text.specs.Text.{bookLimit, linesOf}
 use Rattle.mail.specs.Mail.{alteredLines, repaired}
 use Rattle.mail.specs.Bytewise.{feedFirst, bytewise, changedFrom, numbersOf}
-use Rattle.mail.specs.Listed.{feedNext, noReturnBeforeFeed, noSpace}
+use Rattle.mail.specs.Listed.{Neither}
 use Rattle.mail.specs.Reply.{RepairOutcome}
-use Rattle.mail.proofs.Altering.{alters, alters-bytewise, bytewise-twice, changed-is, unaltered}
+use Rattle.mail.proofs.Altering.{altered, alters, alters-bytewise, bytewise-twice, changed-is, unaltered}
 use Rattle.mail.proofs.Kept.{no-longer}
 use Rattle.mail.proofs.Kind.{Kind, kind, a-space, a-return, a-feed, other}
 use Rattle.mail.proofs.Lines.{lines-bytewise}
@@ -55,60 +56,62 @@ second-run book buffer list short room =
     plain-run (repaired book) buffer list (repaired-twice book) (omega (arith, no-longer book, short)) room
 
 -- a book with neither
-no-feed : (bs : List ℕ) → noReturnBeforeFeed (13 ∷ bs) ≡ true → feedFirst bs ≡ false
+behind : {b : ℕ} {bs : List ℕ} → Neither (b ∷ bs) → Neither bs
+behind h = record { no-space = λ i. h .no-space (suc i); no-return = λ i. h .no-return (suc i) }
+
+no-feed : (bs : List ℕ) → Neither (13 ∷ bs) → feedFirst bs ≡ false
 unfolding feedFirst
 no-feed [] h = refl
 no-feed (c ∷ cs) h = go (kind c) (no-feed cs) h
   where
-    go : {c : ℕ} → Kind c → (noReturnBeforeFeed (13 ∷ cs) ≡ true → feedFirst cs ≡ false) → noReturnBeforeFeed (13 ∷ c ∷ cs) ≡ true → feedFirst (c ∷ cs) ≡ false
+    go : {c : ℕ} → Kind c → (Neither (13 ∷ cs) → feedFirst cs ≡ false) → Neither (13 ∷ c ∷ cs) → feedFirst (c ∷ cs) ≡ false
     go a-space rest h = refl
-    go a-return rest h = rest h
-    go a-feed rest h = absurd (never h refl)
+    go a-return rest h = rest (behind h)
+    go a-feed rest h = absurd (never refl (h .no-return 0))
     go (other p q r) rest h = simp (q, r)
 
-neither : (text : List ℕ) → noSpace text ≡ true → noReturnBeforeFeed text ≡ true → alters text ≡ false
-neither [] s p = refl
-neither (b ∷ bs) s p = go (kind b) (neither bs) s p
+neither : (text : List ℕ) → Neither text → alters text ≡ false
+neither [] h = refl
+neither (b ∷ bs) h = go (kind b) (neither bs (behind h)) h
   where
-    go : {b : ℕ} → Kind b → (noSpace bs ≡ true → noReturnBeforeFeed bs ≡ true → alters bs ≡ false) → noSpace (b ∷ bs) ≡ true → noReturnBeforeFeed (b ∷ bs) ≡ true → alters (b ∷ bs) ≡ false
-    go a-space rest s p = absurd (never s refl)
-    go a-return rest s p = rw (no-feed bs p) (rest s (both (not (feedNext bs)) (noReturnBeforeFeed bs) p .1))
-    go a-feed rest s p = rest s p
-    go (other f g r) rest s p = simp (f, g) (rest (simp f at s) (simp g at p))
+    go : {b : ℕ} → Kind b → alters bs ≡ false → Neither (b ∷ bs) → alters (b ∷ bs) ≡ false
+    go a-space rest h = absurd (never refl (h .no-space 0))
+    go a-return rest h = rw (no-feed bs h) rest
+    go a-feed rest h = rest
+    go (other p q r) rest h = simp (p, q) rest
 
-pub copied : (text : List ℕ) → noSpace text ≡ true → noReturnBeforeFeed text ≡ true → (repaired text ≡ text) × (alteredLines text ≡ [])
-copied text s p =
-    let e = bytewise-is text ∙ unaltered text (neither text s p) in
+pub copied : (text : List ℕ) → Neither text → (repaired text ≡ text) × (alteredLines text ≡ [])
+copied text h =
+    let e = bytewise-is text ∙ unaltered text (neither text h) in
     (e, plain-listed text e)
 
 -- "A book with neither is copied with an empty list"
-pub copied-run : (book buffer list : List ℕ) → noSpace book ≡ true → noReturnBeforeFeed book ≡ true → length book ≤ bookLimit → length book ≤ length buffer →
+pub copied-run : (book buffer list : List ℕ) → Neither book → length book ≤ bookLimit → length book ≤ length buffer →
     RepairOutcome book buffer list (record { refusal = 0; bytes = length book; lines = 0 }) (overwrite book buffer) list
-copied-run book buffer list s p short room = plain-run book buffer list (copied book s p .0) short room
+copied-run book buffer list h short room = plain-run book buffer list (copied book h .0) short room
 
 -- and no other text is
-no-start : (bs : List ℕ) → feedFirst bs ≡ false → feedNext bs ≡ false
+no-start : (bs : List ℕ) → feedFirst bs ≡ false → eqb (getD bs 0 0) 10 ≡ false
 unfolding feedFirst
 no-start [] e = refl
-no-start (c ∷ cs) e = go (kind c) e
-  where
-    go : {c : ℕ} → Kind c → feedFirst (c ∷ cs) ≡ false → feedNext (c ∷ cs) ≡ false
-    go a-space e = refl
-    go a-return e = refl
-    go a-feed e = absurd (never refl e)
-    go (other p q r) e = r
+no-start (c ∷ cs) e = or-both (eqb c 10) _ e .0
 
-clean : (text : List ℕ) → alters text ≡ false → (noSpace text ≡ true) × (noReturnBeforeFeed text ≡ true)
-clean [] h = (refl, refl)
-clean (b ∷ bs) h = go (kind b) h (clean bs) (feedFirst bs) refl
-  where
-    go : {b : ℕ} → Kind b → alters (b ∷ bs) ≡ false → (alters bs ≡ false → (noSpace bs ≡ true) × (noReturnBeforeFeed bs ≡ true)) → (f : Bool) → feedFirst bs ≡ f
-        → (noSpace (b ∷ bs) ≡ true) × (noReturnBeforeFeed (b ∷ bs) ≡ true)
-    go a-space h rest f k = absurd (never refl h)
-    go a-return h rest true k = absurd (never refl (rw k at h))
-    go a-return h rest false k = let r = rest (rw k at h) in (r .0, rw (no-start bs k) (r .1))
-    go a-feed h rest f k = rest h
-    go (other p q r) h rest f k = let t = rest (rw (p, q) at h) in (rw p (t .0), rw q (t .1))
+weaker : (a f n : Bool) → (f ≡ false → n ≡ false) → (a && f) ≡ false → (a && n) ≡ false
+weaker true f n h e = h e
+weaker false f n h e = refl
 
-pub copied-only : (text : List ℕ) → repaired text ≡ text → (noSpace text ≡ true) × (noReturnBeforeFeed text ≡ true)
-copied-only text e = clean text (ap alters (sym (sym (bytewise-is text) ∙ e)) ∙ alters-bytewise text)
+space-free : (text : List ℕ) → alters text ≡ false → (i : ℕ) → eqb (getD text i 0) 32 ≡ false
+space-free [] h i = refl
+space-free (b ∷ bs) h zero = or-both (eqb b 32) _ (or-both (altered b (feedFirst bs)) (alters bs) h .0) .0
+space-free (b ∷ bs) h (suc i) = space-free bs (or-both (altered b (feedFirst bs)) (alters bs) h .1) i
+
+return-free : (text : List ℕ) → alters text ≡ false → (i : ℕ) → (eqb (getD text i 0) 13 && eqb (getD text (suc i) 0) 10) ≡ false
+return-free [] h i = refl
+return-free (b ∷ bs) h zero =
+    weaker (eqb b 13) (feedFirst bs) _ (no-start bs) (or-both (eqb b 32) _ (or-both (altered b (feedFirst bs)) (alters bs) h .0) .1)
+return-free (b ∷ bs) h (suc i) = return-free bs (or-both (altered b (feedFirst bs)) (alters bs) h .1) i
+
+pub copied-only : (text : List ℕ) → repaired text ≡ text → Neither text
+copied-only text e =
+    let h = ap alters (sym (sym (bytewise-is text) ∙ e)) ∙ alters-bytewise text in
+    record { no-space = space-free text h; no-return = return-free text h }

@@ -1,12 +1,15 @@
 -- Small texts, repaired by the definitions themselves. 02: L14. Assumes nothing.
 use Prim.Native.Nat.{ℕ}
 use mathlib.Core.Path.{_≡_, refl}
-use mathlib.Core.List.{List, [], _∷_, map}
-use lib.ListN.{replicate}
+use mathlib.Core.Bool.{not, true}
+use mathlib.Core.List.{List, [], _∷_, _++_, map}
+use lib.Dec.{eqb}
+use lib.ListN.{length, replicate}
 use Rattle.base.specs.Choice.{if_then_else_}
 use Rattle.base.specs.FirstMet.{firstOr}
 use Rattle.text.specs.Bytes.{bytes}
 use Rattle.text.specs.Text.{extendFirst, linesOf, sameBytes}
+use Rattle.text.proofs.Bytes.{only}
 use Rattle.mail.specs.Mail.{inFront, runsOf, endsAtFeed, repairedRun, repairedRuns, repaired, differing, alteredLines}
 use Rattle.mail.specs.Reply.{bufferAfter, numbersAfter, repairRefusal, repairReply, repairTests, unlessRefused}
 
@@ -72,6 +75,23 @@ untouched = (refl, refl)
 longer : repaired (bytes "\t\ta     b\r\r\r\r\n") ≡ bytes "\t\ta\tb\n"
 unfolding worked
 longer = refl
+
+long-run : (repaired (replicate 1000 32) ≡ 9 ∷ []) × (repaired (replicate 1000 13 ++ 10 ∷ []) ≡ 10 ∷ [])
+unfolding worked
+long-run = (refl, refl)
+
+-- of all bytes a space alone is altered between two others, two of it are one, and before a line feed a carriage return alone goes
+space-alone : only 32 (λ b. not (sameBytes (repaired (97 ∷ b ∷ 98 ∷ [])) (97 ∷ b ∷ 98 ∷ []))) ≡ true
+unfolding worked
+space-alone = refl
+
+joined-alone : only 32 (λ b. eqb (length (repaired (b ∷ b ∷ []))) 1) ≡ true
+unfolding worked
+joined-alone = refl
+
+return-alone : only 13 (λ b. eqb (length (repaired (b ∷ 10 ∷ []))) 1) ≡ true
+unfolding worked
+return-alone = refl
 
 odd-bytes : repaired (0 ∷ 11 ∷ 12 ∷ 127 ∷ 160 ∷ 255 ∷ []) ≡ 0 ∷ 11 ∷ 12 ∷ 127 ∷ 160 ∷ 255 ∷ []
 unfolding worked

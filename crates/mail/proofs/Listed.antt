@@ -1,7 +1,7 @@
 -- Which lines are listed. 02: L14. Assumes nothing.
 use Prim.Native.Nat.{ℕ, zero, suc, _+_, _≤_, _<_}
 use mathlib.Core.Path.{_≡_, refl, sym, _∙_}
-use mathlib.Core.Bool.{Bool, true, false}
+use mathlib.Core.Bool.{Bool, true, false, _&&_}
 use mathlib.Core.List.{List, [], _∷_, map}
 use native.Mathlib.Omega.{arith}
 use native.Mathlib.Nat.{le-of-suc-le-suc, not-suc-le-zero, add-suc, suc-add}
@@ -13,7 +13,7 @@ use Rattle.base.specs.Choice.{if_then_else_}
 use Rattle.text.specs.Text.{linesOf}
 use Rattle.mail.specs.Mail.{alteredLines, repaired}
 use Rattle.mail.specs.Bytewise.{bytewise, changed, changedFrom}
-use Rattle.mail.specs.Listed.{listed, risesFrom}
+use Rattle.mail.specs.Listed.{listed}
 use Rattle.mail.proofs.Altering.{changes}
 use Rattle.mail.proofs.Lines.{lines-bytewise}
 use Rattle.mail.proofs.Runs.{bytewise-is, numbers-are}
@@ -58,6 +58,11 @@ listed-exactly text i h =
     let c = changes line in
     (λ l q. c .0 (sym k ∙ l) (sym e ∙ q), λ n. k ∙ c .1 (λ q. n (e ∙ q)))
 
+-- each number is above the one before it, and the first is at least n
+abbrev risesFrom : ℕ → List ℕ → Bool
+risesFrom n [] = true
+risesFrom n (x ∷ xs) = leb n x && risesFrom (suc x) xs
+
 rising-from : (m n : ℕ) (lines : List (List ℕ)) → m ≤ n → risesFrom m (changedFrom n lines) ≡ true
 unfolding changedFrom if_then_else_
 rising-from m n [] h = refl
@@ -69,8 +74,7 @@ rising-from m n (line ∷ lines) h =
     go true e next same = rw (e, le-leb m n h) next
     go false e next same = rw e same
 
--- "rising, each once"
-pub rising : (text : List ℕ) → risesFrom 1 (alteredLines text) ≡ true
+rising : (text : List ℕ) → risesFrom 1 (alteredLines text) ≡ true
 rising text = rw (numbers-are text) (rising-from 1 1 (linesOf text) (omega arith))
 
 -- and no number but those of lines
@@ -86,7 +90,7 @@ higher-missing k n (line ∷ lines) h = go (changed line) refl (higher-missing k
 pub none-past : (text : List ℕ) (k : ℕ) → length (linesOf text) < k → listed k (alteredLines text) ≡ false
 none-past text k h = rw (numbers-are text) (higher-missing k 1 (linesOf text) (omega arith))
 
--- the same by places
+-- "rising, each once", by places
 rises-above : (n i : ℕ) (xs : List ℕ) → risesFrom n xs ≡ true → i < length xs → n ≤ getD xs i 0
 rises-above n i [] h k = absurd (not-suc-le-zero k)
 rises-above n zero (x ∷ xs) h k = leb-true n x (both (leb n x) (risesFrom (suc x) xs) h .0)

@@ -1,14 +1,14 @@
 -- Whatever comes back without a carriage return is what a mail program can have made of the result. Assumes nothing.
 use Prim.Native.Nat.{ℕ, zero, suc}
 use mathlib.Core.Path.{_≡_, refl}
-use mathlib.Core.Bool.{Bool, true, false, _||_}
+use mathlib.Core.Bool.{Bool, true, false}
 use mathlib.Core.List.{List, [], _∷_}
 use lib.Dec.{eqb}
+use lib.ListN.{getD}
 use Rattle.base.specs.Choice.{if_then_else_}
 use Rattle.base.proofs.Choice.{never}
 use Rattle.mail.specs.Mail.{repaired}
 use Rattle.mail.specs.Bytewise.{spaceFirst, feedFirst, tabbed, bytewise}
-use Rattle.mail.specs.Listed.{listed}
 use Rattle.mail.specs.Mailed.{Mailed, nothing, tabbing, feeding, leaving}
 use Rattle.mail.proofs.Kind.{Kind, kind, a-space, a-return, a-feed, other}
 use Rattle.mail.proofs.Only.{ends}
@@ -36,24 +36,24 @@ more-return (leaving b p q m) e = go (kind b) p q m e
     go a-feed p q m e = feeding 1 m
     go (other f g r) p q m e = absurd (never e (simp (g, r)))
 
-or-second : (a b : Bool) → (a || b) ≡ false → b ≡ false
-or-second true b e = absurd (never refl e)
-or-second false b e = e
+-- no place of it holds a carriage return
+abbrev NoReturn : List ℕ → Type 0
+NoReturn text = (i : ℕ) → eqb (getD text i 0) 13 ≡ false
 
-made-by-mail : (came : List ℕ) → listed 13 (bytewise came) ≡ false → Mailed (bytewise came) came
+made-by-mail : (came : List ℕ) → NoReturn (bytewise came) → Mailed (bytewise came) came
 unfolding bytewise tabbed if_then_else_
 made-by-mail [] h = nothing
 made-by-mail (b ∷ bs) h = go (kind b) h (made-by-mail bs) (spaceFirst bs) refl (feedFirst bs) refl
   where
-    go : {b : ℕ} → Kind b → listed 13 (bytewise (b ∷ bs)) ≡ false → (listed 13 (bytewise bs) ≡ false → Mailed (bytewise bs) bs)
+    go : {b : ℕ} → Kind b → NoReturn (bytewise (b ∷ bs)) → (NoReturn (bytewise bs) → Mailed (bytewise bs) bs)
         → (s : Bool) → spaceFirst bs ≡ s → (f : Bool) → feedFirst bs ≡ f → Mailed (bytewise (b ∷ bs)) (b ∷ bs)
-    go a-space h rest true k f l = rw k (more-space (rest (rw k at h)) k)
-    go a-space h rest false k f l = rw k (tabbing 0 (ends bs k) (rest (rw k at h)))
-    go a-return h rest s k true l = rw l (more-return (rest (rw l at h)) l)
-    go a-return h rest s k false l = absurd (never refl (rw l at h))
-    go a-feed h rest s k f l = feeding 0 (rest h)
-    go {b} (other p q r) h rest s k f l = rw (p, q) (leaving b p q (rest (or-second (eqb 13 b) _ (rw (p, q) at h))))
+    go a-space h rest true k f l = rw k (more-space (rest (λ i. rw k at (h i))) k)
+    go a-space h rest false k f l = rw k (tabbing 0 (ends bs k) (rest (λ i. rw k at (h (suc i)))))
+    go a-return h rest s k true l = rw l (more-return (rest (λ i. rw l at (h i))) l)
+    go a-return h rest s k false l = absurd (never refl (rw l at (h 0)))
+    go a-feed h rest s k f l = feeding 0 (rest (λ i. h (suc i)))
+    go {b} (other p q r) h rest s k f l = rw (p, q) (leaving b p q (rest (λ i. rw (p, q) at (h (suc i)))))
 
 -- so nothing narrower than this is meant by a mailed text
-pub mailed-all : (came : List ℕ) → listed 13 (repaired came) ≡ false → Mailed (repaired came) came
-mailed-all came h = rw (bytewise-is came) (made-by-mail came (rw (bytewise-is came) at h))
+pub mailed-all : (came : List ℕ) → NoReturn (repaired came) → Mailed (repaired came) came
+mailed-all came h = rw (bytewise-is came) (made-by-mail came (λ i. rw (bytewise-is came) at (h i)))

@@ -1,12 +1,12 @@
 -- What is said of runs holds, and determines what is repaired. Assumes nothing.
 use Prim.Native.Nat.{ℕ, zero, suc}
-use mathlib.Core.Path.{_≡_, refl, sym, ap, _∙_}
-use mathlib.Core.Bool.{Bool, true, false, _&&_}
+use mathlib.Core.Path.{_≡_, refl, ap, _∙_}
+use mathlib.Core.Bool.{false}
 use mathlib.Core.List.{List, [], _∷_, _++_}
 use lib.Dec.{eqb}
 use lib.ListN.{replicate}
 use Rattle.base.specs.Choice.{if_then_else_}
-use Rattle.text.specs.Text.{lineFeed, startsWith, tab}
+use Rattle.text.specs.Text.{lineFeed, tab}
 use Rattle.mail.specs.Mail.{space, carriageReturn, repaired}
 use Rattle.mail.specs.Bytewise.{spaceFirst, feedFirst, tabbed, bytewise}
 use Rattle.mail.specs.Mailed.{Mailed, nothing, tabbing, feeding, leaving}
@@ -14,19 +14,15 @@ use Rattle.mail.specs.OnRuns.{NotFirst, OnRuns}
 use Rattle.mail.proofs.Over.{fed-bytes}
 use Rattle.mail.proofs.Runs.{bytewise-is}
 
-and-none : (t : Bool) → (t && true) ≡ t
-and-none true = refl
-and-none false = refl
-
 no-space : (rest : List ℕ) → NotFirst 32 rest → spaceFirst rest ≡ false
-unfolding startsWith spaceFirst
+unfolding spaceFirst
 no-space [] e = refl
-no-space (b ∷ bs) e = sym (and-none (eqb b 32)) ∙ e
+no-space (b ∷ bs) e = e
 
 no-feed : (rest : List ℕ) → NotFirst 13 rest → NotFirst 10 rest → feedFirst rest ≡ false
-unfolding startsWith feedFirst
+unfolding feedFirst
 no-feed [] c f = refl
-no-feed (b ∷ bs) c f = rw (sym (and-none (eqb b 13)) ∙ c, sym (and-none (eqb b 10)) ∙ f)
+no-feed (b ∷ bs) c f = rw (c, f)
 
 -- byte by byte
 spaces-run : (n : ℕ) (rest : List ℕ) → spaceFirst rest ≡ false → bytewise (replicate (suc n) space ++ rest) ≡ tab ∷ bytewise rest

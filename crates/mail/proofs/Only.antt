@@ -6,7 +6,6 @@ use mathlib.Core.List.{List, [], _∷_, _++_}
 use lib.ListN.{replicate}
 use borrow.Author.Tests.{eqb-true}
 use Rattle.base.proofs.Choice.{never}
-use Rattle.text.specs.Text.{startsWith}
 use Rattle.mail.specs.Mail.{repaired}
 use Rattle.mail.specs.Bytewise.{spaceFirst, feedFirst}
 use Rattle.mail.specs.OnRuns.{NotFirst, OnRuns}
@@ -33,9 +32,9 @@ record Stays (text : List ℕ) : Type 0 where
   parts : text ≡ replicate n 13 ++ rest
 
 pub ends : (text : List ℕ) → spaceFirst text ≡ false → NotFirst 32 text
-unfolding spaceFirst startsWith
+unfolding spaceFirst
 ends [] e = refl
-ends (b ∷ bs) e = rw e
+ends (b ∷ bs) e = e
 
 spaces-of : (text : List ℕ) → spaceFirst text ≡ true → Spaces text
 unfolding spaceFirst
@@ -58,7 +57,7 @@ dropped-of (b ∷ bs) e = go (kind b) e (dropped-of bs)
     go (other p q r) e more = absurd (never e (simp (q, r)))
 
 stays-of : (text : List ℕ) → feedFirst text ≡ false → Stays text
-unfolding feedFirst startsWith
+unfolding feedFirst
 stays-of [] e = record { n = 0; rest = []; no-return = refl; no-feed = refl; parts = refl }
 stays-of (b ∷ bs) e = go (kind b) e (stays-of bs)
   where
@@ -66,7 +65,7 @@ stays-of (b ∷ bs) e = go (kind b) e (stays-of bs)
     go a-space e more = record { n = 0; rest = 32 ∷ bs; no-return = refl; no-feed = refl; parts = refl }
     go a-return e more = let r = more e in record { n = suc (r .n); rest = r .rest; no-return = r .no-return; no-feed = r .no-feed; parts = ap (λ l. 13 ∷ l) (r .parts) }
     go a-feed e more = absurd (never refl e)
-    go {b} (other p q r) e more = record { n = 0; rest = b ∷ bs; no-return = rw q; no-feed = rw r; parts = refl }
+    go {b} (other p q r) e more = record { n = 0; rest = b ∷ bs; no-return = q; no-feed = r; parts = refl }
 
 -- a byte of a run that has more of the run behind it
 module _ (f : List ℕ → List ℕ) (h : OnRuns f) where

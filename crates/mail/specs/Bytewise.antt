@@ -23,7 +23,7 @@ feedFirst (b ∷ bs) = eqb b lineFeed || (eqb b carriageReturn && feedFirst bs)
 abbrev pub leftOut : ℕ → Bool → Bool → Bool
 leftOut b spaceBehind feedBehind = (eqb b space && spaceBehind) || (eqb b carriageReturn && feedBehind)
 
--- a byte that stays
+-- what a byte that stays becomes
 unfoldable pub tabbed : ℕ → ℕ
 tabbed b = if eqb b space then tab else b
 
@@ -31,7 +31,7 @@ unfoldable pub bytewise : List ℕ → List ℕ
 bytewise [] = []
 bytewise (b ∷ bs) = if leftOut b (spaceFirst bs) (feedFirst bs) then bytewise bs else tabbed b ∷ bytewise bs
 
--- whether a line's bytes change: no run goes on from one line into the next
+-- whether a line's bytes change: no run of spaces, or of carriage returns that end at a line feed, goes on from one line into the next
 unfoldable pub changed : List ℕ → Bool
 changed line = not (sameBytes line (bytewise line))
 

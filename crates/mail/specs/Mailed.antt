@@ -7,10 +7,10 @@ use lib.Dec.{eqb}
 use lib.ListN.{replicate}
 use Rattle.mail.specs.OnRuns.{NotFirst}
 
--- the text that was sent, and what came: a tab came as one space or more, with no further space behind them; a line feed came with any
--- number of carriage returns in front of it, none among them; any other byte came as it was, a tab that the program left alone too. A text
--- with a space or a carriage return of its own was never sent, and of two tabs side by side one at most came as spaces: a right book has
--- none of these
+-- the text that was sent, and what came: a tab came as one space or more, with no further space behind them; a line feed came behind any
+-- number of carriage returns, or none; any other byte came as it was, a tab that the program left alone too. It speaks of no text sent with a
+-- space or a carriage return of its own, and of two tabs side by side one at most came as spaces: a book whose every line can be read has
+-- none of these, nor two tabs side by side
 pub data Mailed : List ℕ → List ℕ → Type 0 where
   nothing : Mailed [] []
   tabbing : {sent came : List ℕ} (n : ℕ) → NotFirst 32 came → Mailed sent came → Mailed (9 ∷ sent) (replicate (suc n) 32 ++ came)

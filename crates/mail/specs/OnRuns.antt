@@ -1,15 +1,14 @@
--- What the paper says of each run, with the bytes behind it. 02: L14
+-- What the paper says of each run, with the bytes behind it, and that all it does not name stays. 02: L14
 use Prim.Native.Nat.{ℕ, suc}
 use mathlib.Core.Path.{_≡_}
 use mathlib.Core.Bool.{false}
 use mathlib.Core.List.{List, [], _∷_, _++_}
 use lib.Dec.{eqb}
-use lib.ListN.{replicate}
-use Rattle.text.specs.Text.{startsWith}
+use lib.ListN.{getD, replicate}
 
--- a text does not start with this byte; an empty one starts with none
+-- a text does not start with this byte; an empty one reads as 0, which is none of these
 abbrev pub NotFirst : ℕ → List ℕ → Type 0
-NotFirst b rest = startsWith (b ∷ []) rest ≡ false
+NotFirst b rest = eqb (getD rest 0 0) b ≡ false
 
 -- 32 is a space, 9 a tab, 13 a carriage return, 10 a line feed
 pub record OnRuns (f : List ℕ → List ℕ) : Type 0 where

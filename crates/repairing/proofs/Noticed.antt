@@ -14,6 +14,8 @@ use Rattle.result.proofs.NumberLines.{list-written}
 use Rattle.mail.specs.Mail.{alteredLines, repaired}
 use Rattle.mail.specs.Reply.{RepairOutcome, bufferAfter, numbersAfter, repairReply, unlessRefused}
 use Rattle.mail.specs.declared.RepairReply.{RepairReply}
+use Rattle.mail.proofs.Again.{none-listed, repaired-twice}
+use Rattle.mail.proofs.Kept.{no-longer}
 use Rattle.mail.proofs.Refusals.{lines-inside, only-too-long}
 use Rattle.mail.proofs.Replying.{too-long as refused-too-long}
 use Rattle.repairing.specs.Repairing.{alteredNumbers, bookWritten, noticeWritten, refusalOf}
@@ -55,3 +57,12 @@ whole-book book h = rw (only-too-long book h)
 pub whole-notice : (book : List ℕ) → length book ≤ bookLimit → noticeWritten book ≡ numberLines (length (alteredLines book)) (alteredLines book)
 unfolding noticeWritten listText unlessRefused if_then_else_
 whole-notice book h = rw (only-too-long book h)
+
+-- and of what it wrote itself the same book, with nothing to say
+pub own-output : (book : List ℕ) → length book ≤ bookLimit → (bookWritten (bookWritten book) ≡ bookWritten book) × (noticeWritten (bookWritten book) ≡ [])
+unfolding numberLines
+own-output book h =
+    let short : length (repaired book) ≤ bookLimit = omega (arith, no-longer book, h) in (
+      rw (whole-book book h) (whole-book (repaired book) short ∙ repaired-twice book),
+      rw (whole-book book h) (whole-notice (repaired book) short ∙ rw (none-listed book)),
+    )
