@@ -2,13 +2,14 @@
 use Prim.Native.Nat.{ℕ}
 use mathlib.Core.Path.{_≡_, refl, sym, _∙_}
 use mathlib.Core.Bool.{Bool, true, false, not, _&&_}
-use mathlib.Core.List.{List, [], _∷_}
+use mathlib.Core.List.{List, [], _∷_, _++_}
 use lib.Dec.{eqb}
 use borrow.Author.Tests.{eqb-true, eq-eqb}
 use Rattle.base.specs.Choice.{if_then_else_}
 use Rattle.base.specs.FirstMet.{Test, _when_, firstOr, firstMet, NoneMet, Here, FirstIs, ExactFor, Exact}
 use Rattle.base.proofs.Choice.{never, either, if-true, if-false}
 use Rattle.base.proofs.Every.{both}
+use Rattle.base.proofs.Tests.{and-true}
 
 -- whatever a test gives has this property
 abbrev pub EachGives : {A : Type 0} → (A → Type 0) → List (Test A) → Type 0
@@ -28,6 +29,11 @@ absent k ((n when met) ∷ ts) = not (eqb k n) && absent k ts
 abbrev pub distinct : List (Test ℕ) → Bool
 distinct [] = true
 distinct ((n when met) ∷ ts) = not (eqb n 0) && (absent n ts && distinct ts)
+
+-- none has the number 0
+abbrev pub nonzero : List (Test ℕ) → Bool
+nonzero [] = true
+nonzero ((n when met) ∷ ts) = not (eqb n 0) && nonzero ts
 
 unequal : (t : Bool) → not t ≡ true → t ≡ false
 unequal true e = absurd (never e refl)
@@ -94,11 +100,44 @@ first-exactly k ((n when false) ∷ ts) z d e =
 pub none-met : (ts : List (Test ℕ)) → NoneMet ts → firstMet ts ≡ 0
 none-met ts h = none-given 0 ts h
 
-pub none-exactly : (ts : List (Test ℕ)) → distinct ts ≡ true → firstMet ts ≡ 0 → NoneMet ts
+pub none-of : (ts : List (Test ℕ)) → nonzero ts ≡ true → firstMet ts ≡ 0 → NoneMet ts
 unfolding firstOr if_then_else_
-none-exactly [] d e = tt
-none-exactly ((n when true) ∷ ts) d e = absurd (never (eq-eqb n 0 e) (unequal (eqb n 0) (both (not (eqb n 0)) _ d .0)))
-none-exactly ((n when false) ∷ ts) d e = (refl, none-exactly ts (both (absent n ts) _ (both (not (eqb n 0)) _ d .1) .1) e)
+none-of [] d e = tt
+none-of ((n when true) ∷ ts) d e = absurd (never (eq-eqb n 0 e) (unequal (eqb n 0) (both (not (eqb n 0)) _ d .0)))
+none-of ((n when false) ∷ ts) d e = (refl, none-of ts (both (not (eqb n 0)) _ d .1) e)
+
+distinct-nonzero : (ts : List (Test ℕ)) → distinct ts ≡ true → nonzero ts ≡ true
+distinct-nonzero [] d = refl
+distinct-nonzero ((n when met) ∷ ts) d =
+    let b = both (not (eqb n 0)) _ d in
+    and-true _ _ (b .0) (distinct-nonzero ts (both (absent n ts) _ (b .1) .1))
+
+pub none-exactly : (ts : List (Test ℕ)) → distinct ts ≡ true → firstMet ts ≡ 0 → NoneMet ts
+none-exactly ts d e = none-of ts (distinct-nonzero ts d) e
 
 pub exact : (ts : List (Test ℕ)) → distinct ts ≡ true → Exact ts
 exact ts d = (λ k z. (first-exactly k ts z d, first-is k ts), none-exactly ts d, none-met ts)
+
+-- TESTS BEHIND OTHERS
+
+pub none-append : (ts us : List (Test ℕ)) → NoneMet (ts ++ us) → NoneMet ts × NoneMet us
+none-append [] us h = (tt, h)
+none-append ((n when met) ∷ ts) us h = let later = none-append ts us (h .1) in ((h .0, later .0), later .1)
+
+pub nonzero-append : (ts us : List (Test ℕ)) → nonzero ts ≡ true → nonzero us ≡ true → nonzero (ts ++ us) ≡ true
+nonzero-append [] us h k = k
+nonzero-append ((n when met) ∷ ts) us h k = let b = both (not (eqb n 0)) _ h in and-true _ _ (b .0) (nonzero-append ts us (b .1) k)
+
+-- where one of the first is met, it decides; where none is, the others do
+pub append-met : (ts us : List (Test ℕ)) → eqb (firstMet ts) 0 ≡ false → firstMet (ts ++ us) ≡ firstMet ts
+unfolding firstOr if_then_else_
+append-met [] us e = absurd (never refl e)
+append-met ((n when true) ∷ ts) us e = refl
+append-met ((n when false) ∷ ts) us e = append-met ts us e
+
+pub append-none : (ts us : List (Test ℕ)) → nonzero ts ≡ true → firstMet ts ≡ 0 → firstMet (ts ++ us) ≡ firstMet us
+append-none ts us d e = go ts (none-of ts d e)
+  where
+    go : (ts : List (Test ℕ)) → NoneMet ts → firstMet (ts ++ us) ≡ firstMet us
+    go [] h = refl
+    go ((n when met) ∷ ts) h = not-met n met (ts ++ us) (h .0) ∙ go ts (h .1)

@@ -3,6 +3,9 @@ pub mod Tests
 pub mod Least
 pub mod Every
 pub mod All
+pub mod Compare
+pub mod EachElement
+pub mod Rest
 pub mod Arrays
 pub mod FirstMet
 pub mod Placed
@@ -10,4 +13,5 @@ pub mod Places
 pub mod Range
 pub mod Rounding
 pub mod Sum
+pub mod SumBelow
 pub mod Writing

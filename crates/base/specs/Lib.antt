@@ -1,5 +1,7 @@
 pub mod All
+pub mod Any
 pub mod Choice
+pub mod Each
 pub mod FirstMet
 pub mod Least
 pub mod Places

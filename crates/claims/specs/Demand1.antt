@@ -7,7 +7,8 @@
 --                      `add_swap`                                           addCollateralRefusal, withCollateral and the like
 --   reporting a deal   `relief::report::Report::of`                         reportRefusal, reportOf
 --   answering a book   `book::answer::answer_book`                          bookReply, resultsAfter
--- (Repairing a book that came by mail, `mail::repair_book`, with refusals 20 and 41 of document 02, is MailedBooks.)
+-- (Repairing a book that came by mail, `mail::repair_book`, with refusals 20 and 41 of document 02, is MailedBooks; netting a set, `netting::set::NettingSet::reply`, with
+-- 15, 16 and 17, is NettingSets.)
 -- What follows is proved of those definitions, for every input whatever. Calls on numbers (crate hadlephoga) go through the same operations:
 -- their contracts add 13 and 11 for lists of another length, and 40 for numbers that are no record, and determine every number of every list.
 use Prim.Native.Nat.{ℕ}

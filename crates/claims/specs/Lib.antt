@@ -6,5 +6,6 @@ pub mod DailyFigures
 pub mod LongerLives
 pub mod Losses
 pub mod MailedBooks
+pub mod NettingSets
 pub mod SovereignFloor
 pub mod Tables2023

@@ -15,7 +15,8 @@ use Rattle.base.proofs.Choice.{either, if-true, if-false}
 use Rattle.base.proofs.Sum.{sum-take}
 use Rattle.cover.specs.Cover.{lowerWeighted, equal, before}
 use Rattle.cover.specs.declared.protection.Protection.{Protection}
-use Rattle.cover.proofs.Levels.{side, lower-weighted-in, lower-weighted-out, lower-weighted-le, lower-weighted-next, equal-in, equal-out}
+use Rattle.base.proofs.Compare.{side}
+use Rattle.cover.proofs.Levels.{lower-weighted-in, lower-weighted-out, lower-weighted-le, lower-weighted-next, equal-in, equal-out}
 
 -- what an array is read as past its end
 abbrev pub none : Protection

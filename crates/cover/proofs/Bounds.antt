@@ -6,7 +6,7 @@ use native.Mathlib.Nat.{mul-le-mul-left, mul-le-mul-right, le-trans}
 use native.Mathlib.Omega.{arith}
 use Rattle.base.specs.Sum.{sumOf}
 use Rattle.cover.specs.Cover.{covered, coveredAfter, uncovered, weightedSum}
-use Rattle.cover.specs.Each.{Each}
+use Rattle.base.specs.Each.{Each}
 use Rattle.cover.specs.declared.protection.Protection.{Protection}
 use Rattle.cover.proofs.Portions.{each-covered, conserved, portions-le}
 

@@ -2,25 +2,18 @@
 use Prim.Native.Nat.{ℕ, suc, _+_, _≤_, _<_, max}
 use mathlib.Core.Path.{_≡_, refl}
 use mathlib.Core.List.{List, [], _∷_, _++_}
-use mathlib.Core.Logic.{_⊎_, inl, inr, ⊎-elim, _≢_}
-use native.Mathlib.Nat.{lt-of-not-le}
-use native.Mathlib.Decide.{decLe, ℕ-discrete}
+use mathlib.Core.Logic.{⊎-elim, _≢_}
+use native.Mathlib.Decide.{ℕ-discrete}
 use native.Mathlib.Omega.{arith}
 use borrow.Author.Tests.{lt-ltb, le-ltb, eq-eqb, ne-eqb}
 use Rattle.base.specs.Choice.{if_then_else_}
 use Rattle.base.specs.Sum.{sumOf}
+use Rattle.base.proofs.Compare.{side}
 use Rattle.base.proofs.Sum.{sum-append}
 use Rattle.cover.specs.Cover.{lowerWeighted, equal, before}
 use Rattle.cover.specs.declared.protection.Protection.{Protection}
 -- the worked examples are checked before the laws
 use Rattle.cover.proofs.Examples.{later-lower-weighted-portions, two-equal-portions, unrounded}
-
-pub side : (a b : ℕ) → (a < b) ⊎ (b ≤ a)
-side a b = go (decLe b a)
-  where
-    go : Dec (b ≤ a) → (a < b) ⊎ (b ≤ a)
-    go (yes h) = inr h
-    go (no h) = inl (lt-of-not-le h)
 
 module _ (w : ℕ) (p : Protection) where
   pub lower-weighted-in : p .weight < w → lowerWeighted w p ≡ p .value

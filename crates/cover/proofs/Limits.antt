@@ -7,7 +7,7 @@ use lib.Dec.{leb}
 use borrow.Author.Tests.{leb-true}
 use Rattle.base.specs.All.{allPass}
 use Rattle.base.proofs.Every.{both}
-use Rattle.cover.specs.Each.{Each}
+use Rattle.base.specs.Each.{Each}
 use Rattle.cover.specs.Limits.{withinLimits}
 use Rattle.cover.specs.declared.protection.Protection.{Protection}
 

@@ -9,7 +9,7 @@ use lib.ListN.{length, take, getD}
 use lib.Seq.{append-snoc}
 use Rattle.base.specs.Sum.{sumOf}
 use Rattle.cover.specs.Cover.{lowerWeighted, equal, before, portion, coveredAfter, covered, uncovered}
-use Rattle.cover.specs.Each.{Each}
+use Rattle.base.specs.Each.{Each}
 use Rattle.cover.specs.declared.protection.Protection.{Protection}
 use Rattle.cover.proofs.Levels.{equal-in, equal-out, level-next, level-zero, level-top, top, before-none, before-next}
 

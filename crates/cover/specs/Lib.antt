@@ -1,3 +1,2 @@
 pub mod Cover
-pub mod Each
 pub mod Limits

@@ -5,18 +5,16 @@ use mathlib.Core.List.{List, [], _∷_, map}
 use mathlib.Core.Logic.{inl, inr, ⊎-elim}
 use native.Mathlib.Nat.{zero-sub}
 use native.Mathlib.Omega.{arith}
-use Rattle.base.specs.Sum.{sumOf}
+use Rattle.base.proofs.EachElement.{each-map}
 use Rattle.cover.specs.Cover.{lowerWeighted, portion, covered, weightedSum}
-use Rattle.cover.specs.Each.{Each}
-use Rattle.cover_laws.specs.Layers.{LeftOutOrLowerWeighted, EachLowerWeighted, sumBelow, layers}
+use Rattle.base.specs.Each.{Each}
+use Rattle.base.specs.Sum.{sumBelow, sumOf}
+use Rattle.cover_laws.specs.Layers.{LeftOutOrLowerWeighted, EachLowerWeighted, layers}
 use Rattle.cover.specs.declared.protection.Protection.{Protection}
-use Rattle.cover.proofs.Levels.{side, lower-weighted-in, lower-weighted-out}
+use Rattle.base.proofs.Compare.{side}
+use Rattle.cover.proofs.Levels.{lower-weighted-in, lower-weighted-out}
 use Rattle.cover.proofs.Portions.{each-covered, filled, conserved}
-use Rattle.cover_laws.proofs.SumBelow.{below-add, below-eq, below-same}
-
-pub each-map : {A B : Type 0} (P : B → Type 0) (f : A → B) → ((x : A) → P (f x)) → (xs : List A) → Each P (map f xs)
-each-map P f h [] = tt
-each-map P f h (x ∷ xs) = (h x, each-map P f h xs)
+use Rattle.base.proofs.SumBelow.{below-add, below-eq, below-same}
 
 pub within-map : {A : Type 0} (W : ℕ) (f : A → Protection) → ((x : A) → LeftOutOrLowerWeighted W (f x)) → (xs : List A) → EachLowerWeighted W (map f xs)
 within-map W f h xs = each-map (LeftOutOrLowerWeighted W) f h xs

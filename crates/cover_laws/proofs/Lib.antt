@@ -1,4 +1,3 @@
-pub mod SumBelow
 pub mod Layers
 pub mod Weighted
 pub mod Order

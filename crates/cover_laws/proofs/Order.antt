@@ -13,7 +13,7 @@ use Rattle.base.specs.Choice.{if_then_else_}
 use Rattle.base.specs.Sum.{sumOf}
 use Rattle.base.proofs.Choice.{if-true, if-false}
 use Rattle.cover.specs.Cover.{lowerWeighted, before, portion, coveredAfter, covered}
-use Rattle.cover.specs.Each.{Each}
+use Rattle.base.specs.Each.{Each}
 use Rattle.cover_laws.specs.Sorted.{insert, sort, Rising, ofWeight, pass}
 use Rattle.cover.specs.declared.protection.Protection.{Protection}
 use Rattle.cover.proofs.Levels.{lower-weighted-in, lower-weighted-out, lower-weighted-next, equal-out, before-none, before-next}

@@ -6,10 +6,11 @@ use native.Mathlib.Omega.{arith}
 use Rattle.base.specs.Sum.{sumOf}
 use Rattle.cover.specs.Cover.{lowerWeighted, weightedSum}
 use Rattle.cover.specs.declared.protection.Protection.{Protection}
-use Rattle.cover.proofs.Levels.{side, lower-weighted-in, lower-weighted-out}
+use Rattle.base.proofs.Compare.{side}
+use Rattle.cover.proofs.Levels.{lower-weighted-in, lower-weighted-out}
 use Rattle.cover_laws.specs.Layers.{EachLowerWeighted}
 use Rattle.cover_laws.proofs.Layers.{weighted-layers}
-use Rattle.cover_laws.proofs.SumBelow.{below-mono, below-same}
+use Rattle.base.proofs.SumBelow.{below-mono, below-same}
 
 -- more value, no more weight: no less below any weight
 pub lower-weighted-mono : (w : ℕ) (p p′ : Protection) → p .value ≤ p′ .value → p′ .weight ≤ p .weight → lowerWeighted w p ≤ lowerWeighted w p′

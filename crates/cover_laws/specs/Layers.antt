@@ -1,11 +1,11 @@
 -- The weighted sum by layers: each percent of the counterparty's weight is borne by what lower-weighted pieces leave uncovered.
-use Prim.Native.Nat.{ℕ, zero, suc, _+_, _-_, _<_}
+use Prim.Native.Nat.{ℕ, suc, _-_, _<_}
 use mathlib.Core.Path.{_≡_}
 use mathlib.Core.List.{List}
 use mathlib.Core.Logic.{_⊎_}
-use Rattle.base.specs.Sum.{sumOf}
+use Rattle.base.specs.Sum.{sumBelow, sumOf}
+use Rattle.base.specs.Each.{Each}
 use Rattle.cover.specs.Cover.{lowerWeighted}
-use Rattle.cover.specs.Each.{Each}
 use Rattle.cover.specs.declared.protection.Protection.{Protection}
 
 -- a guarantee that is worth 0, as one left out is, or that has a lower weight than the counterparty
@@ -14,11 +14,6 @@ LeftOutOrLowerWeighted W p = (p .value ≡ 0) ⊎ (p .weight < W)
 
 abbrev pub EachLowerWeighted : ℕ → List Protection → Type 0
 EachLowerWeighted W ps = Each (LeftOutOrLowerWeighted W) ps
-
--- f 0 + f 1 + .. + f (n - 1)
-unfoldable pub sumBelow : ℕ → (ℕ → ℕ) → ℕ
-sumBelow zero f = 0
-sumBelow (suc n) f = sumBelow n f + f n
 
 -- for each percent l below W, what the pieces of weight l or less leave of E
 abbrev pub layers : ℕ → ℕ → List Protection → ℕ

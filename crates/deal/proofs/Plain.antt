@@ -87,11 +87,11 @@ sovereign-step p e = go (eqb (p .class) 1 || eqb (p .class) 4) e
     go false h = leb-true (p .«sovereign_step») 6 h
 
 -- a party's own step, and its sovereign's
-party-steps : (p : Party) → partyStepsAllowed p ≡ true → (p .step ≤ 6) × (p .«sovereign_step» ≤ 6)
+pub party-steps : (p : Party) → partyStepsAllowed p ≡ true → (p .step ≤ 6) × (p .«sovereign_step» ≤ 6)
 unfolding partyStepsAllowed
 party-steps p e = let b = both (partyStepAllowed p) _ e in (party-step p (b .0), sovereign-step p (b .1))
 
-asset-step : (a : Asset) → assetStepAllowed a ≡ true → a .step ≤ 6
+pub asset-step : (a : Asset) → assetStepAllowed a ≡ true → a .step ≤ 6
 unfolding assetStepAllowed if_then_else_
 asset-step a e = go (isDebt (a .goods)) e
   where

@@ -8,13 +8,13 @@ unfoldable pub answerNumber : Answer → ℕ
 answerNumber Accepted = 0
 -- "amount over the limit"
 answerNumber AmountAboveLimit = 1
--- "unknown class, kind or type", and edition (02: L5)
+-- "unknown class, kind or type", and edition (02: L5); of a netting set table and side (02: L6)
 answerNumber UnknownCode = 2
 -- "step above 6, or not 0 where 0 is due", and a wrong step of the sovereign of incorporation (02: L5)
 answerNumber WrongStep = 3
 -- "currency"
 answerNumber WrongCurrency = 4
--- "interval, term or issue life outside its range"
+-- "interval, term or issue life outside its range"; of a netting set security number (02: L6)
 answerNumber OutsideRange = 5
 -- "that list is full"
 answerNumber ListFull = 6

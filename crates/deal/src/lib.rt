@@ -2,7 +2,7 @@
 // A record may come from anywhere and hold any numbers; `Deal::accepted` tells whether it is one that operations accept.
 pub mod answer;
 pub mod asset;
-mod checks;
+pub mod checks;
 pub mod collateral;
 pub mod deal;
 pub mod fields;

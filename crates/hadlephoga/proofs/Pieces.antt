@@ -4,10 +4,9 @@ use mathlib.Core.Path.{_≡_, refl, sym, ap, _∙_}
 use mathlib.Core.List.{List, [], _∷_, map, _++_, append-nil}
 use native.Mathlib.Nat.{le-of-suc-le-suc, not-suc-le-zero}
 use native.Mathlib.Omega.{arith}
-use lib.ListN.{length, take, drop, getD, set, replicate, length-drop, length-replicate, take-append-drop}
+use lib.ListN.{length, take, drop, getD, set, replicate, length-drop, length-map, length-replicate, take-append-drop, drop-of-length-le}
 use lib.Seq.{drop-at, drop-drop, length-take-le, take-all, take-at}
 use Rattle.base.proofs.Places.{fill-more}
-use Rattle.deal.specs.Lists.{listLimit}
 use Rattle.hadlephoga.specs.Records.{inOrder, slices}
 
 pub length-slices : (width k : ℕ) (ns : List ℕ) → length (slices width k ns) ≡ k
@@ -34,19 +33,31 @@ part-wide width ns at h =
     let e : at + width - at ≡ width = omega arith in
     omega (arith, length-take-le (at + width - at) (drop at ns) (omega (arith, e, length-drop at ns)), e)
 
-module _ {A : Type 0} (f : List ℕ → A) (none : A) (width : ℕ) (ns : List ℕ) where
-  -- places filled from the first i slices
+-- so many places filled from so many slices
+module _ {A : Type 0} (f : List ℕ → A) (none : A) (width count places : ℕ) (ns : List ℕ) where
+  -- those of the first i slices
   abbrev pub Filled : List A → ℕ → Type 0
-  Filled items i = items ≡ map f (take i (slices width listLimit ns)) ++ drop i (replicate listLimit none)
+  Filled items i = items ≡ map f (take i (slices width count ns)) ++ drop i (replicate places none)
 
-  pub place-filled : (items : List A) (i : ℕ) (x : A) → i < listLimit → Filled items i → x ≡ f (part width ns (i * width)) → Filled (set items i x) (i + 1)
-  place-filled items i x h filled e =
+  pub place-filled : (items : List A) (i : ℕ) (x : A) → i < count → i < places → Filled items i → x ≡ f (part width ns (i * width)) →
+      Filled (set items i x) (i + 1)
+  place-filled items i x h k filled e =
       let n : i * width + width - i * width ≡ width = omega arith in
-      let here : x ≡ f (getD (slices width listLimit ns) i []) = e ∙ ap f (rw n (sym (piece-at width listLimit ns i h))) in
-      rw (filled, here) (fill-more f [] i (slices width listLimit ns) (replicate listLimit none) (omega (arith, h, length-slices width listLimit ns)) (omega (arith, h, length-replicate listLimit none)))
+      let here : x ≡ f (getD (slices width count ns) i []) = e ∙ ap f (rw n (sym (piece-at width count ns i h))) in
+      rw (filled, here) (fill-more f [] i (slices width count ns) (replicate places none) (omega (arith, h, length-slices width count ns)) (omega (arith, k, length-replicate places none)))
 
-  pub all-filled : (items : List A) (i : ℕ) → i ≡ listLimit → Filled items i → items ≡ map f (slices width listLimit ns)
-  all-filled items i e filled = filled ∙ rw (e, take-all listLimit (slices width listLimit ns) (omega (arith, length-slices width listLimit ns))) (append-nil _)
+  -- all of them
+  pub front-filled : (items : List A) (i : ℕ) → i ≡ count → Filled items i → take count items ≡ map f (slices width count ns)
+  front-filled items i e filled =
+      let slices-all = take-all count (slices width count ns) (omega (arith, length-slices width count ns)) in
+      let whole : items ≡ map f (slices width count ns) ++ drop count (replicate places none) = filled ∙ rw (e, slices-all) refl in
+      ap (take count) whole ∙ take-at (map f (slices width count ns)) _ count (rw length-map (length-slices width count ns))
+
+-- and every place
+pub all-filled : {A : Type 0} (f : List ℕ → A) (none : A) (width count : ℕ) (ns : List ℕ) (items : List A) (i : ℕ) → i ≡ count →
+    Filled f none width count count ns items i → items ≡ map f (slices width count ns)
+all-filled f none width count ns items i e filled =
+    filled ∙ rw (e, take-all count (slices width count ns) (omega (arith, length-slices width count ns)), drop-of-length-le (replicate count none) {i = count} (omega (arith, length-replicate count none))) (append-nil _)
 
 -- what is written for each element, one behind the other, and read from the slices
 module _ {A : Type 0} (write : A → List ℕ) (read : List ℕ → A) (width : ℕ) where

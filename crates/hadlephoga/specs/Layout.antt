@@ -1,6 +1,6 @@
 -- The number of the layout: what callers in other languages may rely on. 02: L5 changes it for the first time.
 --
--- THE RULE OF CHANGE. The layout is how many numbers there are of terms, of an item, of a record and of a report, their order and what each of
+-- THE RULE OF CHANGE. The layout is how many numbers there are of terms, of an item, of a record, of a report, of a set and of a position, their order and what each of
 -- them means; the arguments of the operations; and what the numbers of refusals and grounds mean. Whenever any of it changes, the number rises
 -- by 1, in the same landing, and the header says what changed. While the number stays, a program that was built for it gets, for every call
 -- that was taken, the answer it would have got before; what was refused may be taken later (as a longer term is since L11, and edition 3 since

@@ -1,4 +1,5 @@
 pub mod Layout
+pub mod Netting
 pub mod Operations
 pub mod Records
 pub mod Reports

@@ -1,11 +1,12 @@
 // The proved library for programs in other languages: answering a book, repairing one that came by mail, opening a deal, adding an item to
-// it, and reporting it. Numbers and slices only, and nothing is asked of the caller's numbers: whatever they are, the answer is a figure or
+// it, reporting it, and netting a set of positions. Numbers and slices only, and nothing is asked of the caller's numbers: whatever they are, the answer is a figure or
 // a refusal.
 ghost use mathlib.Core.Path.{_≡_};
 ghost use lib.ListN.{length};
 ghost use Rattle.book.specs.Book.{bookReply, resultsAfter};
 ghost use Rattle.mail.specs.Reply.{bufferAfter, numbersAfter, repairReply};
 ghost use Rattle.hadlephoga.specs.Layout.{layout};
+ghost use Rattle.hadlephoga.specs.Netting.{nettingReply};
 ghost use Rattle.hadlephoga.specs.Operations.{addingCollateralRefusal, addingGuaranteeRefusal, addingSwapRefusal, listOpened, numbersWithCollateral, numbersWithGuarantee, numbersWithSwap, openingRefusalOf};
 ghost use Rattle.hadlephoga.specs.Reports.{listAfter, reportingRefusal};
 
@@ -14,8 +15,10 @@ mod lent;
 mod opening;
 mod record;
 mod report;
+mod sets;
 mod writing;
 
+use crate::sets::net_numbers;
 use adding::add_collateral;
 use adding::add_guarantee;
 use adding::add_swap;
@@ -72,6 +75,19 @@ pub extern "C" fn hadlephoga_repair_book(
     let reply = repair_book(book, repaired, altered);
     *bytes = reply.bytes as u64;
     *lines = reply.lines as u64;
+    reply.refusal
+}
+
+// The reply to a netting set, six numbers and seven for each position: 11, the refusal or 0, with E* and the weighted amount beside it.
+#[no_mangle]
+pub extern "C" fn hadlephoga_net_set(set: &[u64], exposure: &mut u64, rwa: &mut u64) -> u64
+    ensures { λ r. ⌜ r ≡ nettingReply (now (set .entry)) .refusal ⌝ }
+    ensures { λ _. ⌜ now (exposure .exit) ≡ nettingReply (now (set .entry)) .exposure ⌝ }
+    ensures { λ _. ⌜ now (rwa .exit) ≡ nettingReply (now (set .entry)) .rwa ⌝ }
+{
+    let reply = net_numbers(set);
+    *exposure = reply.exposure;
+    *rwa = reply.rwa;
     reply.refusal
 }
 

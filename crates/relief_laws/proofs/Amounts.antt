@@ -22,7 +22,7 @@ use Rattle.relief.specs.Weights.{counterpartyWeightOf}
 use Rattle.relief.specs.Collateral.{collateralOutcome}
 use Rattle.relief.specs.Guarantees.{protectionOf}
 use Rattle.relief.specs.Exposure.{scaledLentHaircut, adjustedExposureOf, collateralTotal, exposureAfter, piecesOf, riskWeightedAmountOf}
-use Rattle.relief_laws.proofs.Haircuts.{scaled-mono}
+use Rattle.scaling.proofs.Scaled.{scaled-mono}
 use Rattle.relief_laws.proofs.Rounded.{adjusted-exposure-mono, risk-weighted-mono}
 use Rattle.relief_laws.proofs.NoWorse.{SameOrBetter, NoWorseTerms, NoWorseCollateral, NoWorseGuarantee, NoLess, sum-no-less}
 use Rattle.relief_laws.proofs.Recognition.{period-no-longer, counterparty-same, protection-lower-weighted, collateral-no-less, protection-no-less}

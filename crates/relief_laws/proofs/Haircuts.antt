@@ -2,14 +2,12 @@
 use Prim.Native.Nat.{ℕ, _≤_}
 use mathlib.Core.Path.{_≡_, refl}
 use native.Mathlib.Omega.{arith}
-use native.Mathlib.Nat.{le-trans, mul-le-mul}
 use lib.Dec.{eqb}
 use borrow.Author.Tests.{eq-eqb}
 use Rattle.base.proofs.Choice.{either₂, if-true}
-use Rattle.base.proofs.Least.{least-mono}
 use Rattle.scaling.specs.Period.{holdingPeriod, guaranteePeriod}
 use Rattle.scaling.specs.Scaling.{scaled}
-use Rattle.scaling.proofs.Scaled.{scaled-is}
+use Rattle.scaling.proofs.Scaled.{scaled-mono}
 use Rattle.valuation.specs.Haircuts.{scaledCurrencyHaircut, combinedHaircut}
 
 -- more frequent revaluation, no longer a period
@@ -20,11 +18,6 @@ period-mono kind h = omega arith
 pub guarantee-mono : {i j : ℕ} → i ≤ j → guaranteePeriod i ≤ guaranteePeriod j
 unfolding guaranteePeriod
 guarantee-mono h = omega arith
-
--- a larger haircut, a longer period: no smaller
-pub scaled-mono : {H H′ n n′ : ℕ} → H ≤ H′ → n ≤ n′ → scaled H n ≤ scaled H′ n′
-scaled-mono {H} {H′} {n} {n′} p q =
-    least-mono (λ k e. le-trans (mul-le-mul (mul-le-mul p p) q) e) (scaled-is H n) (scaled-is H′ n′)
 
 -- a smaller haircut, a shorter period: no larger
 pub currency-mono : (a b : ℕ) {n n′ : ℕ} → n ≤ n′ → scaledCurrencyHaircut a b n ≤ scaledCurrencyHaircut a b n′

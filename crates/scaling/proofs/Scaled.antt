@@ -5,7 +5,7 @@ use native.Mathlib.Omega.{arith}
 use native.Mathlib.Nat.{le-trans, mul-le-mul, mul-le-mul-left, le-mul-of-pos-right}
 use native.Mathlib.Decide.{decLe}
 use borrow.Author.Tests.{leb-true, le-leb}
-use Rattle.base.proofs.Least.{least-is, least-unique}
+use Rattle.base.proofs.Least.{least-is, least-mono, least-unique}
 use Rattle.scaling.specs.Scaling.{enough, scaled, IsScaled}
 
 abbrev Enough : ℕ → ℕ → ℕ → Type 0
@@ -44,6 +44,11 @@ scaled-le H n e = scaled-is H n .lowest _ e
 -- a bound for sums and products to fit
 pub scaled-bound : {H n : ℕ} → H ≤ 1000000 → n ≤ 1000 → scaled H n ≤ 10000000
 scaled-bound {H} {n} hH hn = scaled-le H n {b = 10000000} (omega (arith, mul-le-mul (mul-le-mul hH hH) hn))
+
+-- a larger haircut, a longer period: no smaller
+pub scaled-mono : {H H′ n n′ : ℕ} → H ≤ H′ → n ≤ n′ → scaled H n ≤ scaled H′ n′
+scaled-mono {H} {H′} {n} {n′} p q =
+    least-mono (λ k e. le-trans (mul-le-mul (mul-le-mul p p) q) e) (scaled-is H n) (scaled-is H′ n′)
 
 -- what equals it is the least, too
 pub scaled-means : (H n : ℕ) {h : ℕ} → h ≡ scaled H n → (h ≡ scaled H n) × IsScaled H n h

@@ -51,6 +51,6 @@ haircut goods step life =
 unfoldable pub lentHaircut : ℕ → ℕ → ℕ → ℕ
 lentHaircut goods step life = if eligible goods step 0 then haircut goods step life else 250000
 
--- "Different currencies: 80000 besides". CRE22.46 for collateral, CRE22.94 and CRE22.95 for guarantees
+-- "Different currencies: 80000 besides". CRE22.46 for collateral, CRE22.94 and CRE22.95 for guarantees, CRE22.72 (H_fx) for netting sets
 abbrev pub currencyHaircut : ℕ
 currencyHaircut = 80000

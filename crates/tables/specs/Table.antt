@@ -44,7 +44,7 @@ table2023 = record {
 }
 
 -- the tables of an edition, which is the number in a book's header: 3 chooses the version of 2023. Editions but 1, 2 and 3 are refused by opening,
--- adding and reporting
+-- adding and reporting, and all but 2 and 3 by netting a set
 unfoldable pub tableOf : ℕ → Table
 tableOf edition = if eqb edition Version2023.edition2023 then table2023 else table2019 edition
 

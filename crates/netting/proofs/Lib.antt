@@ -1,0 +1,11 @@
+pub mod Computed
+pub mod Examples
+pub mod Sides
+pub mod NetSums
+pub mod HaircutBounds
+pub mod Counting
+pub mod Figures
+pub mod Exposures
+pub mod Refusing
+pub mod Totals
+pub mod Replies

@@ -1,0 +1,12 @@
+pub mod AddOns
+pub mod Exposure
+pub mod Fields
+pub mod Groups
+pub mod Haircuts
+pub mod Limits
+pub mod Nets
+pub mod Once
+pub mod Positions
+pub mod Refusals
+pub mod Reply
+pub mod Terms

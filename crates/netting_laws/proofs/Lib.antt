@@ -1,0 +1,10 @@
+pub mod OnceChanged
+pub mod Growth
+pub mod Falls
+pub mod Agreement
+pub mod LentAlone
+pub mod Theorem
+pub mod Numbered
+pub mod InNumbers
+pub mod Examples
+pub mod ByPlace

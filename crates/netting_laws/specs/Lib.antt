@@ -1,0 +1,2 @@
+pub mod Betterments
+pub mod ByNumber

@@ -1,0 +1,4 @@
+pub mod Examples
+pub mod Less
+pub mod Machine
+pub mod Ceiling
