@@ -1,5 +1,6 @@
 //! Opening a deal, adding to it, and the test of a whole record
-//! (01: The four operations; 02: L1, L5, L9, L11).
+//! (01: The four operations; 02: L1, L5, L9, L11). Netting sets share the tests of
+//! single fields.
 
 use crate::record::{
     place, Collateral, Cover, Guarantee, Record, Swap, Terms, AMOUNT_LIMIT, DAYS_LIMIT, LIST_LIMIT,
@@ -76,14 +77,12 @@ pub(crate) fn is_accepted(record: &Record) -> bool {
 }
 
 fn check_terms(terms: &Terms) -> Result<(), u64> {
-    let retail = terms.class == tables::RETAIL;
     ensure(terms.amount <= AMOUNT_LIMIT, refusal::AMOUNT)?;
     ensure(edition::is_known(terms.edition), refusal::CODE)?;
     ensure((1..=4).contains(&terms.class), refusal::CODE)?;
     ensure((1..=3).contains(&terms.kind), refusal::CODE)?;
     ensure((1..=9).contains(&terms.lent_goods), refusal::CODE)?;
-    ensure(is_step(terms.step, retail), refusal::STEP)?;
-    check_sovereign_step(terms.class, terms.sovereign_step)?;
+    check_counterparty_steps(terms.class, terms.step, terms.sovereign_step)?;
     check_goods_step(terms.lent_goods, terms.lent_step)?;
     check_currency(terms.currency)?;
     ensure((1..=250).contains(&terms.interval), refusal::DAYS)?;
@@ -124,22 +123,33 @@ fn check_guarantee(item: &Guarantee) -> Result<(), u64> {
     check_conditions([item.lawful, item.direct, item.unreflected])
 }
 
+/// The step of a counterparty, which is 0 for retail, and its sovereign's.
+pub(crate) fn check_counterparty_steps(
+    class: u64,
+    step: u64,
+    sovereign_step: u64,
+) -> Result<(), u64> {
+    let retail = class == tables::RETAIL;
+    ensure(is_step(step, retail), refusal::STEP)?;
+    check_sovereign_step(class, sovereign_step)
+}
+
 /// Sovereigns and retail have no sovereign of incorporation: theirs is sent as
 /// 0, under every edition (02: L5).
 fn check_sovereign_step(class: u64, step: u64) -> Result<(), u64> {
     ensure(is_step(step, !tables::has_sovereign(class)), refusal::STEP)
 }
 
-fn check_goods_step(goods: u64, step: u64) -> Result<(), u64> {
+pub(crate) fn check_goods_step(goods: u64, step: u64) -> Result<(), u64> {
     ensure(is_step(step, !tables::is_debt(goods)), refusal::STEP)
 }
 
-fn check_currency(currency: u64) -> Result<(), u64> {
+pub(crate) fn check_currency(currency: u64) -> Result<(), u64> {
     ensure((1..=999).contains(&currency), refusal::CURRENCY)
 }
 
 /// Goods other than debt have no issue life: theirs is sent as 0.
-fn check_issue_life(goods: u64, life: u64) -> Result<(), u64> {
+pub(crate) fn check_issue_life(goods: u64, life: u64) -> Result<(), u64> {
     let fits = if tables::is_debt(goods) {
         is_term(life)
     } else {
@@ -171,7 +181,7 @@ fn is_term(days: u64) -> bool {
     (1..=DAYS_LIMIT).contains(&days)
 }
 
-fn ensure(met: bool, refusal: u64) -> Result<(), u64> {
+pub(crate) fn ensure(met: bool, refusal: u64) -> Result<(), u64> {
     met.then_some(()).ok_or(refusal)
 }
 

@@ -1,6 +1,7 @@
 //! Editions of the rules and of the lines, by the number in the second field of
-//! a book's header (02: L5, L9). A deal holds the number of its edition. All that
-//! goes by edition is said here.
+//! a book's header (02: L5, L9). A deal holds the number of its edition, a netting
+//! set the number of the one whose tables it names. All that goes by edition is
+//! said here.
 
 use crate::tables::Tables;
 use crate::{tables_2019, tables_2023};
@@ -13,6 +14,8 @@ struct Edition {
     sends_sovereign: bool,
     /// Whether no unrated bank or corporate weighs less than its sovereign.
     has_floor: bool,
+    /// Whether netting sets name its tables.
+    has_netting: bool,
     tables: &'static Tables,
 }
 
@@ -22,6 +25,7 @@ static EDITIONS: [Edition; 3] = [
         header: b"CRM\t1\n",
         sends_sovereign: false,
         has_floor: false,
+        has_netting: false,
         tables: &tables_2019::TABLES,
     },
     Edition {
@@ -29,6 +33,7 @@ static EDITIONS: [Edition; 3] = [
         header: b"CRM\t2\n",
         sends_sovereign: true,
         has_floor: true,
+        has_netting: true,
         tables: &tables_2019::TABLES,
     },
     Edition {
@@ -36,6 +41,7 @@ static EDITIONS: [Edition; 3] = [
         header: b"CRM\t3\n",
         sends_sovereign: true,
         has_floor: true,
+        has_netting: true,
         tables: &tables_2023::TABLES,
     },
 ];
@@ -67,7 +73,13 @@ pub fn has_floor(edition: u64) -> bool {
     find(edition).is_some_and(|edition| edition.has_floor)
 }
 
-/// Risk weights and haircuts of a known edition; no accepted deal holds another.
+/// Whether a netting set may name its table by the number (02: L9).
+pub fn is_netting_table(number: u64) -> bool {
+    find(number).is_some_and(|edition| edition.has_netting)
+}
+
+/// Risk weights and haircuts of a known edition; no accepted deal or netting set
+/// holds another.
 pub fn tables(edition: u64) -> &'static Tables {
     find(edition).map_or(&tables_2019::TABLES, |edition| edition.tables)
 }
@@ -104,6 +116,13 @@ mod tests {
     fn the_first_edition_has_neither_the_field_nor_the_floor() {
         assert_eq!([1, 2, 3].map(sends_sovereign), [false, true, true]);
         assert_eq!([1, 2, 3].map(has_floor), [false, true, true]);
+    }
+
+    #[test]
+    fn netting_sets_name_tables_2_and_3() {
+        for number in (0..=300).chain([1 << 32, (1 << 32) + 2, u64::MAX]) {
+            assert_eq!(is_netting_table(number), [2, 3].contains(&number));
+        }
     }
 
     #[test]

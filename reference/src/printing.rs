@@ -1,12 +1,14 @@
 //! What is printed for a book: the answer of `crmbook` (01: The book), the whole
 //! report of each deal in a form of this crate's own, and the repair of a book
-//! that came by mail (02: L14).
+//! that came by mail (02: L14); and what is printed for netting sets (02: L6).
 
 use std::fmt::{self, Display, Formatter};
 
 use crate::answer::{answer_book, deals, DealRead, NUMBERS_A_DEAL};
-use crate::book::LONGEST;
+use crate::book::{lines, LONGEST};
 use crate::mail::repair_book;
+use crate::netting::NettingReply;
+use crate::netting_lines::line_reply;
 use crate::outcome::{Outcome, Valuation};
 use crate::record::{Cover, Record};
 use crate::reporting::evaluated;
@@ -49,6 +51,14 @@ pub fn printed_repair(book: &[u8]) -> (Vec<u8>, Vec<u8>) {
         refusal => refused(refusal),
     };
     (repaired, text.into_bytes())
+}
+
+/// What is printed for netting sets, one a line: refusal, E* and weighted amount
+/// of each.
+pub fn printed_netting(sets: &[u8]) -> Vec<u8> {
+    let replies = lines(sets).map(line_reply);
+    let text: String = replies.map(|reply| format!("{reply}\n")).collect();
+    text.into_bytes()
 }
 
 fn refused(refusal: u64) -> String {
@@ -114,6 +124,17 @@ fn word_for(item: &Cover) -> &'static str {
     match item {
         Cover::Guarantee(_) => "GUARANTEE",
         Cover::Swap(_) => "SWAP",
+    }
+}
+
+impl Display for NettingReply {
+    fn fmt(&self, out: &mut Formatter) -> fmt::Result {
+        let NettingReply {
+            refusal,
+            exposure,
+            weighted,
+        } = self;
+        write!(out, "{refusal}\t{exposure}\t{weighted}")
     }
 }
 

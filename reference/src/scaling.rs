@@ -1,5 +1,5 @@
-//! Scaling a haircut from ten business days to the deal's holding period
-//! (01: Haircuts; CRE22.61 to CRE22.64).
+//! Scaling a haircut from ten business days to the holding period of the deal or
+//! netting set (01: Haircuts; 02: L6; CRE22.61 to CRE22.64).
 
 /// Holding period in business days of the haircuts of a deal.
 pub fn deal_days(kind: u64, interval: u64) -> u64 {
@@ -15,6 +15,12 @@ pub fn deal_days(kind: u64, interval: u64) -> u64 {
 /// swap, whatever the kind of the deal.
 pub fn guarantee_days(interval: u64) -> u64 {
     interval + 9
+}
+
+/// Holding period in business days of the haircuts of a netting set: its
+/// transactions are repo-style.
+pub fn netting_days(interval: u64) -> u64 {
+    interval + 4
 }
 
 /// The least h with 10 × h × h at or above `haircut` × `haircut` × `days`.
@@ -77,6 +83,7 @@ mod tests {
         assert_eq!([1, 2, 3].map(|kind| deal_days(kind, 1)), [5, 10, 20]);
         assert_eq!([1, 2, 3].map(|kind| deal_days(kind, 250)), [254, 259, 269]);
         assert_eq!(guarantee_days(1), 10);
+        assert!((1..=60).all(|interval| netting_days(interval) == deal_days(1, interval)));
     }
 
     #[test]

@@ -2,7 +2,7 @@
 //! L2).
 
 /// The whole in millionths, the unit of the haircuts.
-const WHOLE: u64 = 1_000_000;
+pub const WHOLE: u64 = 1_000_000;
 
 /// `part` of `whole`: at most the whole, which is not 0.
 #[derive(Clone, Copy, Debug, PartialEq, Eq)]

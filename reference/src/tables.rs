@@ -11,7 +11,7 @@ pub const OTHER_ENTITY: u64 = CORPORATE;
 pub const RETAIL: u64 = 4;
 
 /// Goods types; 6, re-securitisation, has no haircut and so no name.
-const CASH: u64 = 1;
+pub const CASH: u64 = 1;
 const SOVEREIGN_DEBT: u64 = 2;
 const OTHER_DEBT: u64 = 3;
 pub const BANK_DEBT: u64 = 4;

@@ -1,16 +1,30 @@
-//! Risk weights of the parties to a deal by the tables of its edition, with the
-//! floor of the sovereign's weight where the edition has it (02: L5, L9; CRE20.11,
-//! CRE20.17).
+//! Risk weights of the parties to a deal or a netting set by the tables of its
+//! edition, with the floor of the sovereign's weight where the edition has it (02:
+//! L5, L6, L9; CRE20.11, CRE20.17).
 
 use crate::edition;
+use crate::netting::NettingSet;
 use crate::record::{Guarantee, Terms};
 use crate::tables::{BANK, CORPORATE, SOVEREIGN};
 
 /// Weight of the counterparty of an accepted deal.
 pub fn counterparty_weight(terms: &Terms) -> u64 {
-    let own = edition::tables(terms.edition).risk_weight(terms.class, terms.step);
-    match (terms.class, terms.step) {
-        (BANK | CORPORATE, 0) => own.max(floor(terms.sovereign_step, terms.edition)),
+    weight_of(
+        [terms.class, terms.step, terms.sovereign_step],
+        terms.edition,
+    )
+}
+
+/// Weight of the counterparty of an accepted netting set.
+pub fn set_weight(set: &NettingSet) -> u64 {
+    weight_of([set.class, set.step, set.sovereign_step], set.table)
+}
+
+/// Weight of a counterparty by class, step and sovereign's step.
+fn weight_of([class, step, sovereign_step]: [u64; 3], edition: u64) -> u64 {
+    let own = edition::tables(edition).risk_weight(class, step);
+    match (class, step) {
+        (BANK | CORPORATE, 0) => own.max(floor(sovereign_step, edition)),
         _ => own,
     }
 }

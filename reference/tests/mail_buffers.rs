@@ -3,9 +3,6 @@
 
 mod common;
 
-use std::io::Write;
-use std::process::{Command, Output, Stdio};
-
 use common::*;
 use reference::{printed_repair, refusal, repair_book, RepairReply};
 
@@ -180,21 +177,6 @@ fn the_most_lines_are_mended() {
         repaired(&b"\r ".repeat(LONGEST / 2)),
         (b"\r\t".repeat(LONGEST / 2), vec![1])
     );
-}
-
-/// What the program with the arguments prints for what it reads.
-fn program(arguments: &[&str], input: &[u8]) -> Output {
-    let mut program = Command::new(env!("CARGO_BIN_EXE_reference"))
-        .args(arguments)
-        .stdin(Stdio::piped())
-        .stdout(Stdio::piped())
-        .stderr(Stdio::piped())
-        .spawn()
-        .expect("the program starts");
-    let mut stdin = program.stdin.take().expect("piped input");
-    stdin.write_all(input).expect("input is read");
-    drop(stdin);
-    program.wait_with_output().expect("the program ends")
 }
 
 #[test]

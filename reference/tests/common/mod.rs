@@ -1,6 +1,11 @@
-//! Sample deals, the lines of a book, and a generator of random ones.
+//! Sample deals, the lines of a book, a generator of random ones, and the program.
 
 #![allow(dead_code)] // each test file uses some of these
+
+pub mod netting;
+
+use std::io::Write;
+use std::process::{Command, Output, Stdio};
 
 use reference::{
     add_collateral, add_guarantee, add_swap, answer_book, open, printed_reports, repair_book,
@@ -603,6 +608,21 @@ pub fn repaired(book: &[u8]) -> (Vec<u8>, Vec<u64>) {
     text.truncate(reply.bytes);
     lines.truncate(reply.lines);
     (text, lines)
+}
+
+/// What the program with the arguments prints for what it reads.
+pub fn program(arguments: &[&str], input: &[u8]) -> Output {
+    let mut program = Command::new(env!("CARGO_BIN_EXE_reference"))
+        .args(arguments)
+        .stdin(Stdio::piped())
+        .stdout(Stdio::piped())
+        .stderr(Stdio::piped())
+        .spawn()
+        .expect("the program starts");
+    let mut stdin = program.stdin.take().expect("piped input");
+    stdin.write_all(input).expect("input is read");
+    drop(stdin);
+    program.wait_with_output().expect("the program ends")
 }
 
 /// Marsaglia's xorshift generator.
