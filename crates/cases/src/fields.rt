@@ -3,7 +3,7 @@ ghost use Prim.Native.Nat.{_≤_, _<_};
 use crate::show::least;
 
 // Room for the word, and more numbers than any operation takes.
-pub const ROOM: usize = 32;
+pub const ROOM: usize = 256;
 
 // Room for more than the longest book.
 pub const BYTES: usize = 65_600;
@@ -14,8 +14,8 @@ pub fn wide(byte: u8) -> u64 {
 
 // One byte more: a space begins the next number, where there is room. The place of the number that is read.
 fn with_byte(numbers: &mut [u64; ROOM], place: usize, byte: u8) -> usize
-    requires { ⌜ place < 32 ⌝ }
-    ensures { λ r. ⌜ r < 32 ⌝ }
+    requires { ⌜ place < 256 ⌝ }
+    ensures { λ r. ⌜ r < 256 ⌝ }
 {
     if byte == b' ' {
         return least(place + 1, ROOM - 1);
@@ -28,7 +28,7 @@ fn with_byte(numbers: &mut [u64; ROOM], place: usize, byte: u8) -> usize
 
 // The numbers of a line, each behind a space, from the second place on. Where they end.
 pub fn numbers(line: &[u8], numbers: &mut [u64; ROOM]) -> usize
-    ensures { λ r. ⌜ r ≤ 32 ⌝ }
+    ensures { λ r. ⌜ r ≤ 256 ⌝ }
 {
     let mut last: usize = 0;
     let mut i: usize = 0;

@@ -1,13 +1,16 @@
-// The program cases: runs the lines of its files through opening, adding, reporting, answering and repairing, and prints each
-// reply whole. The file stdout beside src/ holds what documents 01 and 02 give.
+// The program cases: runs the lines of its files through opening, adding, reporting, answering, repairing and netting, and prints
+// each reply whole. The file stdout beside src/ holds what documents 01 and 02 give.
+ghost use Prim.Native.Nat.{_≤_};
 ghost use Rattle.io.specs.Counts.{Counts};
 
 mod fields;
 mod mailed;
+mod netted;
 mod operations;
 mod show;
 
 use fields::BYTES;
+use fields::ROOM;
 use operations::PLACES;
 
 // Reads a file from its start, as far as there is room. A file that is missing, or may be longer, shows.
@@ -25,8 +28,20 @@ fn read(name: &[u8], buffer: &mut [u8]) -> usize
     count
 }
 
+// Two words begin with n: `net`, a netting set, and `notice`.
+fn net_or_notice(line: &[u8], numbers: &[u64; ROOM], end: usize, front: &[u8; BYTES], held: usize)
+    requires { ⌜ end ≤ 256 ⌝ }
+{
+    if line.len() > 1 && line[1] == b'e' {
+        netted::net(numbers, end);
+        return;
+    }
+    mailed::notice(front, held);
+}
+
 // Runs a line on the record and on the bytes in front of a book; how many these then are. The first letter of its word says
-// which operation it is. So many places are lent of the record or of a list of altered lines, and of a list for a report.
+// which operation it is; two begin with n. So many places are lent of the record or of a list of altered lines, and of a list for
+// a report.
 fn run(
     line: &[u8],
     record: &mut [u64; PLACES],
@@ -39,7 +54,7 @@ fn run(
     if line.len() == 0 {
         return held;
     }
-    let mut numbers = [0u64; fields::ROOM];
+    let mut numbers = [0u64; ROOM];
     let end = fields::numbers(line, &mut numbers);
     let letter = line[0];
     match letter {
@@ -60,7 +75,7 @@ fn run(
             let count = fields::put(front, held, line);
             mailed::repair(front, count, numbers[1], lent[0]);
         }
-        b'n' => mailed::notice(front, held),
+        b'n' => net_or_notice(line, &numbers, end, front, held),
         b'e' => return 0,
         _ => {}
     }

@@ -27,7 +27,7 @@ fn changed(letter: u8, list: &mut [u64], numbers: &[u64]) -> u64 {
 
 // Lends so many places, with the numbers behind the word, and shows all places.
 pub fn change(letter: u8, record: &mut [u64], places: u64, numbers: &[u64; ROOM], end: usize)
-    requires { ⌜ end ≤ 32 ⌝ }
+    requires { ⌜ end ≤ 256 ⌝ }
 {
     let lent = least(places as usize, record.len());
     let all = &numbers[..];
@@ -53,7 +53,7 @@ pub fn report(record: &[u64], places: u64, room: u64) {
 
 // Writes numbers from a place on.
 pub fn set(record: &mut [u64; PLACES], numbers: &[u64; ROOM], end: usize)
-    requires { ⌜ end ≤ 32 ⌝ }
+    requires { ⌜ end ≤ 256 ⌝ }
 {
     let place = least(numbers[1] as usize, PLACES);
     let mut k: usize = 2;

@@ -6,7 +6,7 @@ use Rattle.cases.proofs.fields.numbers.Statement.{statement}
 use Rattle.cases.proofs.fields.numbers.Tie as tie
 
 abbrev Inv-loop : tie.InvT-loop
-Inv-loop line numbers₀ last₀ i₀ numbers last i = (last < 32) × (i ≤ length line)
+Inv-loop line numbers₀ last₀ i₀ numbers last i = (last < 256) × (i ≤ length line)
 
 abbrev μ-loop : tie.MeasureT-loop
 μ-loop line numbers₀ last₀ i₀ numbers last i = length line - i

@@ -5,10 +5,10 @@ use Rattle.cases.proofs.operations.set.Statement.{statement}
 use Rattle.cases.proofs.operations.set.Tie as tie
 
 abbrev Inv-loop : tie.InvT-loop
-Inv-loop record₀ numbers end place k₀ «record» k = (2 ≤ k) × (k ≤ 32)
+Inv-loop record₀ numbers end place k₀ «record» k = (2 ≤ k) × (k ≤ 256)
 
 abbrev μ-loop : tie.MeasureT-loop
-μ-loop record₀ numbers end place k₀ «record» k = 32 - k
+μ-loop record₀ numbers end place k₀ «record» k = 256 - k
 
 element-copy-out-least : tie.Need-element-copy-out-least Inv-loop μ-loop
 element-copy-out-least c = search tests
