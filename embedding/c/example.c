@@ -1,7 +1,8 @@
 /* Compares the layouts, answers the sample book of document 01, repairs it after it
  * came by mail, builds and reports its first deal, shows a deal that the floor of
  * edition 2 reaches, one under the tables of 2019 and of 2023, one with a swap of each
- * kind, one whose items lose by every step, and what a refused call gives. */
+ * kind, one whose items lose by every step, a netting set, and what a refused call
+ * gives. */
 #include <inttypes.h>
 #include <stdio.h>
 #include <string.h>
@@ -278,6 +279,66 @@ static void show_losses(void)
   report_all(&deal);
 }
 
+/* A netting set with a bank at step 2, settled in euros. A bond was lent and part of it
+ * came back; equity in dollars was lent, a corporate's bond in dollars and cash of both
+ * currencies were received. An interval of 6 makes n 10, for which the tables stand; with
+ * daily revaluation n is 5.
+ *
+ *                                          table 2         table 3         table 2, daily
+ *   lent        1,500,000
+ *   received    1,450,000   difference      50,000          50,000          50,000.00
+ *   bond          600,000   net             12,000 at 2%    12,000 at 2%     8,485.80 at 1.4143%
+ *   equity        500,000   net             75,000 at 15%  100,000 at 20%   53,033.50 at 10.6067%
+ *   corporate's   300,000   net received    18,000 at 6%    12,000 at 4%    12,728.10 at 4.2427%
+ *   dollars       150,000   net             12,000 at 8%    12,000 at 8%     8,485.35 at 5.6569%
+ *   E*                                     167,000         186,000         132,732.75, up
+ *   weighted amount                         83,500 at 50%   55,800 at 30%   66,366.5 at 50%, up
+ */
+static const struct hadlephoga_set netted = {
+    .terms = {.table = 2, .counterparty_class = 2, .step = 2, .settlement_currency = 978, .interval = 6},
+    .positions = {
+        {.side = HADLEPHOGA_LENT, .amount = 1000000, .security = 101, .type = 2, .step = 1, .issue_life = 720,
+         .currency = 978},
+        {.side = HADLEPHOGA_RECEIVED, .amount = 700000, .type = 1, .currency = 978},
+        {.side = HADLEPHOGA_RECEIVED, .amount = 400000, .security = 101, .type = 2, .step = 1, .issue_life = 720,
+         .currency = 978},
+        {.side = HADLEPHOGA_LENT, .amount = 500000, .security = 202, .type = 7, .currency = 840},
+        {.side = HADLEPHOGA_RECEIVED, .amount = 300000, .security = 303, .type = 3, .step = 2, .issue_life = 720,
+         .currency = 840},
+        {.side = HADLEPHOGA_RECEIVED, .amount = 50000, .type = 1, .currency = 840},
+    },
+};
+#define NETTED_POSITIONS 6
+
+static void print_netted(const char *name, const struct hadlephoga_set *set)
+{
+  uint64_t exposure, rwa;
+  uint64_t refusal = hadlephoga_net(set, NETTED_POSITIONS, &exposure, &rwa);
+
+  printf("%s: refusal %" PRIu64 ", E* %" PRIu64 ", weighted amount %" PRIu64 "\n", name, refusal, exposure, rwa);
+}
+
+/* Refused are an entry for the bond that says another step than the first one, and
+ * received bank debt that is unrated. */
+static void show_netting(void)
+{
+  struct hadlephoga_set of_2023 = netted;
+  struct hadlephoga_set daily = netted;
+  struct hadlephoga_set at_odds = netted;
+  struct hadlephoga_set unrated = netted;
+
+  of_2023.terms.table = 3;
+  daily.terms.interval = 1;
+  at_odds.positions[2].step = 2;
+  unrated.positions[4].type = 4;
+  unrated.positions[4].step = 0;
+  print_netted("netting set, table 2", &netted);
+  print_netted("table 3", &of_2023);
+  print_netted("table 2, daily", &daily);
+  print_netted("entries that disagree", &at_odds);
+  print_netted("unrated bank debt received", &unrated);
+}
+
 /* A list that is one too short, of bytes and of line numbers. */
 static void show_short_lists(void)
 {
@@ -339,6 +400,7 @@ int main(void)
   answer(swapped);
   show_swaps();
   show_losses();
+  show_netting();
   show_refusals(&first);
   show_short_lists();
   return 0;

@@ -1,7 +1,7 @@
 /* Tests that the structs of the header hold each number in its place, and that
- * every name means what the library takes it for; and the calls on books, with every
- * list at its edges. Says the first wrong field and returns 1, or says nothing and
- * returns 0. Compiles as C11 and as C++. */
+ * every name means what the library takes it for; and the calls on books and on netting
+ * sets, with every list at its edges. Says the first wrong field and returns 1, or says
+ * nothing and returns 0. Compiles as C11 and as C++. */
 #include <stdio.h>
 #include <stdlib.h>
 #include <string.h>
@@ -184,6 +184,31 @@ static void places_of_answer(void)
   IS(answer.weighted_amount, 3);
 }
 
+static void places_of_set(void)
+{
+  struct hadlephoga_set set;
+  uint64_t first;
+  size_t i;
+
+  fill(&set, sizeof set, HADLEPHOGA_SET_LENGTH(HADLEPHOGA_POSITIONS));
+  IS(set.terms.table, 0);
+  IS(set.terms.counterparty_class, 1);
+  IS(set.terms.step, 2);
+  IS(set.terms.sovereign_step, 3);
+  IS(set.terms.settlement_currency, 4);
+  IS(set.terms.interval, 5);
+  for (i = 0; i < HADLEPHOGA_POSITIONS; i++) {
+    first = HADLEPHOGA_SET_LENGTH(i);
+    IS(set.positions[i].side, first);
+    IS(set.positions[i].amount, first + 1);
+    IS(set.positions[i].security, first + 2);
+    IS(set.positions[i].type, first + 3);
+    IS(set.positions[i].step, first + 4);
+    IS(set.positions[i].issue_life, first + 5);
+    IS(set.positions[i].currency, first + 6);
+  }
+}
+
 /* The layout that is described here, and what the library itself takes for
  * terms, a record and a report. */
 static void lengths(void)
@@ -203,6 +228,9 @@ static void lengths(void)
   IS(HADLEPHOGA_COVER_WIDTH, 7);
   IS(HADLEPHOGA_RECORD_LENGTH, 366);
   IS(HADLEPHOGA_REPORT_LENGTH, 211);
+  IS(HADLEPHOGA_SET_TERMS_WIDTH, 6);
+  IS(HADLEPHOGA_POSITION_WIDTH, 7);
+  IS(HADLEPHOGA_SET_LENGTH(HADLEPHOGA_POSITIONS), 230);
   IS(hadlephoga_open_deal(terms, HADLEPHOGA_TERMS_WIDTH, record, HADLEPHOGA_RECORD_LENGTH - 1), 13);
   IS(hadlephoga_open_deal(terms, HADLEPHOGA_TERMS_WIDTH - 1, record, HADLEPHOGA_RECORD_LENGTH), 11);
   IS(hadlephoga_open_deal(terms, HADLEPHOGA_TERMS_WIDTH, record, HADLEPHOGA_RECORD_LENGTH), 0);
@@ -1560,6 +1588,473 @@ static void answers_of_mail(const char *text)
     }
 }
 
+/* Netting sets: with margins around the numbers, which stay as they are, and marks
+ * around both figures. */
+
+#define LIMIT UINT64_C(1000000000000)
+#define LONGEST_SET HADLEPHOGA_SET_LENGTH(HADLEPHOGA_POSITIONS + 2)
+
+struct figures {
+  uint64_t before;
+  uint64_t exposure;
+  uint64_t between;
+  uint64_t rwa;
+  uint64_t behind;
+};
+
+/* Calls with these numbers, and looks at everything that was passed and everything
+ * around it. Gives the figures, 0 beside a refusal. */
+static struct figures replied(const uint64_t *numbers, size_t length, uint64_t refusal)
+{
+  static uint64_t passed[MARGIN + LONGEST_SET + MARGIN];
+  static uint64_t copied[MARGIN + LONGEST_SET + MARGIN];
+  struct figures figures;
+
+  IS(length <= LONGEST_SET, 1);
+  memset(passed, BYTE_MARK, sizeof passed);
+  memcpy(passed + MARGIN, numbers, length * sizeof passed[0]);
+  memcpy(copied, passed, sizeof passed);
+  memset(&figures, BYTE_MARK, sizeof figures);
+  IS(hadlephoga_net_set(passed + MARGIN, length, &figures.exposure, &figures.rwa), refusal);
+  IS((uint64_t)memcmp(passed, copied, sizeof passed), 0);
+  IS(figures.before, MARK);
+  IS(figures.between, MARK);
+  IS(figures.behind, MARK);
+  if (refusal != 0) {
+    IS(figures.exposure, 0);
+    IS(figures.rwa, 0);
+  }
+  return figures;
+}
+
+static void netted(const struct hadlephoga_set *set, size_t count, uint64_t exposure, uint64_t rwa)
+{
+  uint64_t numbers[HADLEPHOGA_SET_LENGTH(HADLEPHOGA_POSITIONS)];
+  uint64_t found[2] = {MARK, MARK};
+  struct figures figures;
+
+  memcpy(numbers, set, sizeof numbers);
+  figures = replied(numbers, HADLEPHOGA_SET_LENGTH(count), 0);
+  IS(figures.exposure, exposure);
+  IS(figures.rwa, rwa);
+  IS(hadlephoga_net(set, count, &found[0], &found[1]), 0);
+  IS(found[0], exposure);
+  IS(found[1], rwa);
+}
+
+/* A refusal, or 0. Positions past the count are not passed. */
+static void reply_is(const struct hadlephoga_set *set, size_t count, uint64_t refusal)
+{
+  uint64_t numbers[HADLEPHOGA_SET_LENGTH(HADLEPHOGA_POSITIONS)];
+
+  memcpy(numbers, set, sizeof numbers);
+  replied(numbers, HADLEPHOGA_SET_LENGTH(count), refusal);
+}
+
+static struct hadlephoga_position position(uint64_t side, uint64_t amount, uint64_t security, uint64_t currency)
+{
+  struct hadlephoga_position made;
+
+  made.side = side;
+  made.amount = amount;
+  made.security = security;
+  made.type = 1;
+  made.step = 0;
+  made.issue_life = 0;
+  made.currency = currency;
+  return made;
+}
+
+/* The set of the example: a sovereign's bond lent and partly back, equity in dollars
+ * lent, a corporate's bond in dollars received, cash of both currencies received; marks
+ * in every place behind. n is 6 + 4 = 10, so that table haircuts stay as they are. */
+static struct hadlephoga_set agreement(void)
+{
+  struct hadlephoga_set set;
+
+  memset(&set, 0xA5, sizeof set);
+  set.terms.table = 2;
+  set.terms.counterparty_class = 2;
+  set.terms.step = 2;
+  set.terms.sovereign_step = 0;
+  set.terms.settlement_currency = 978;
+  set.terms.interval = 6;
+  set.positions[0] = position(HADLEPHOGA_LENT, 1000000, 101, 978);
+  set.positions[0].type = 2;
+  set.positions[0].step = 1;
+  set.positions[0].issue_life = 720;
+  set.positions[1] = position(HADLEPHOGA_RECEIVED, 700000, 0, 978);
+  set.positions[2] = set.positions[0];
+  set.positions[2].side = HADLEPHOGA_RECEIVED;
+  set.positions[2].amount = 400000;
+  set.positions[3] = position(HADLEPHOGA_LENT, 500000, 202, 840);
+  set.positions[3].type = 7;
+  set.positions[4] = position(HADLEPHOGA_RECEIVED, 300000, 303, 840);
+  set.positions[4].type = 3;
+  set.positions[4].step = 2;
+  set.positions[4].issue_life = 720;
+  set.positions[5] = position(HADLEPHOGA_RECEIVED, 50000, 0, 840);
+  return set;
+}
+
+/* Each number of the terms, and its part in the figures. */
+static void meanings_of_set_terms(void)
+{
+  struct hadlephoga_set set = agreement();
+
+  /* 50,000, and 600,000 at 2%, 500,000 at 15%, 300,000 at 6%, 150,000 at 8%; 50%. */
+  netted(&set, 6, 167000, 83500);
+  /* 20% and 4%; 30%. */
+  set.terms.table = 3;
+  netted(&set, 6, 186000, 55800);
+  /* n 5: 132,732.75; half of 132,733. */
+  set = agreement();
+  set.terms.interval = 1;
+  netted(&set, 6, 132733, 66367);
+  /* In dollars the euros are netted: 100,000 received, at 8%. */
+  set = agreement();
+  set.terms.settlement_currency = 840;
+  netted(&set, 6, 163000, 81500);
+  /* A sovereign at step 2 weighs 20, retail 75, a corporate at step 5 150. */
+  set = agreement();
+  set.terms.counterparty_class = 1;
+  netted(&set, 6, 167000, 33400);
+  set.terms.counterparty_class = 4;
+  set.terms.step = 0;
+  netted(&set, 6, 167000, 125250);
+  set.terms.counterparty_class = 3;
+  set.terms.step = 5;
+  netted(&set, 6, 167000, 250500);
+  /* An unrated bank weighs 50, and no less than its sovereign. */
+  set.terms.counterparty_class = 2;
+  set.terms.step = 0;
+  set.terms.sovereign_step = 1;
+  netted(&set, 6, 167000, 83500);
+  set.terms.sovereign_step = 4;
+  netted(&set, 6, 167000, 167000);
+  set.terms.sovereign_step = 6;
+  netted(&set, 6, 167000, 250500);
+}
+
+/* Each number of a position, and its part in the figures; the set has fewer positions
+ * at the end. */
+static void meanings_of_positions(void)
+{
+  struct hadlephoga_set set = agreement();
+
+  /* Lent less received is 1,500,000 - 700,000 = 800,000, the bond's net 1,000,000 + 400,000. */
+  set.positions[2].side = HADLEPHOGA_LENT;
+  netted(&set, 6, 983000, 491500);
+  set = agreement();
+  set.positions[2].amount = 399999;
+  netted(&set, 6, 167002, 83501);
+  /* Two bonds that are not netted, 357 being 101 in the lowest byte: 28,000 for 12,000. */
+  set = agreement();
+  set.positions[2].security = 357;
+  netted(&set, 6, 183000, 91500);
+  /* Equity of no main index at 25%. */
+  set = agreement();
+  set.positions[3].type = 8;
+  netted(&set, 6, 217000, 108500);
+  /* The corporate's bond at step 1: 4%; with a life above 1,800 days: 12%. */
+  set = agreement();
+  set.positions[4].step = 1;
+  netted(&set, 6, 161000, 80500);
+  set = agreement();
+  set.positions[4].issue_life = 1801;
+  netted(&set, 6, 185000, 92500);
+  /* It is in pounds: the dollars' net is 450,000, the pounds' 300,000. */
+  set = agreement();
+  set.positions[4].currency = 826;
+  netted(&set, 6, 215000, 107500);
+  /* Without the dollars 100,000 + 105,000 + 200,000 at 8%. */
+  set = agreement();
+  netted(&set, 5, 221000, 110500);
+  /* The first alone is all that was lent; with the cash 300,000 + 20,000. */
+  netted(&set, 1, 1000000, 500000);
+  netted(&set, 2, 320000, 160000);
+  netted(&set, 0, 0, 0);
+}
+
+/* Equity of 100, which is 125 with its haircut, against cash: E* is not above what was
+ * lent and not below 0. In another currency 8 percent are due besides. */
+static void ends_of_netting(void)
+{
+  static const uint64_t figures[][3] = {
+      {0, 100, 50}, {10, 100, 50}, {25, 100, 50}, {26, 99, 50}, {123, 2, 1}, {124, 1, 1}, {125, 0, 0}, {126, 0, 0},
+  };
+  struct hadlephoga_set set = agreement();
+  size_t i;
+
+  set.positions[0] = position(HADLEPHOGA_LENT, 100, 1, 978);
+  set.positions[0].type = 8;
+  for (i = 0; i < sizeof figures / sizeof figures[0]; i++) {
+    set.positions[1] = position(HADLEPHOGA_RECEIVED, figures[i][0], 0, 978);
+    netted(&set, 2, figures[i][1], figures[i][2]);
+  }
+  set.positions[1] = position(HADLEPHOGA_RECEIVED, 115, 0, 840);
+  /* 100 - 115 + 25 + 9.2. */
+  netted(&set, 2, 20, 10);
+  /* At an interval of 60 n is 64: 63.2456 for 25. The whole is at the limit. */
+  set.terms.interval = 60;
+  set.positions[0].amount = 100000000;
+  set.positions[1] = position(HADLEPHOGA_RECEIVED, 100000000, 0, 978);
+  netted(&set, 2, 63245600, 31622800);
+  set.terms.counterparty_class = 3;
+  set.terms.step = 6;
+  set.positions[0].amount = LIMIT;
+  netted(&set, 1, LIMIT, LIMIT / 2 * 3);
+}
+
+/* A million of a security lent against a million of cash, and where it is eligible the
+ * other way round: E* is its haircut in millionths. */
+static void haircuts_in_sets(void)
+{
+  static const uint64_t haircuts[][5] = {
+      /* table, type, step, issue life */
+      {2, 2, 1, 360, 5000}, {2, 2, 3, 361, 30000}, {3, 2, 2, 1801, 60000}, {2, 2, 4, 1, 150000},
+      {2, 3, 1, 360, 10000}, {2, 3, 1, 361, 40000}, {2, 4, 3, 1800, 60000}, {2, 4, 2, 1801, 120000},
+      {3, 3, 1, 360, 10000}, {3, 4, 1, 361, 30000}, {3, 3, 2, 1080, 40000}, {3, 4, 3, 1081, 60000},
+      {3, 3, 1, 1800, 40000}, {3, 4, 1, 1801, 60000}, {3, 3, 2, 3600, 120000}, {3, 4, 3, 3601, 200000},
+      {2, 5, 1, 360, 20000}, {3, 5, 3, 100000, 240000}, {2, 7, 0, 0, 150000}, {3, 7, 0, 0, 200000},
+      {2, 8, 0, 0, 250000}, {3, 8, 0, 0, 300000}, {2, 9, 0, 0, 150000}, {3, 9, 0, 0, 200000},
+      {2, 6, 1, 1, 250000}, {3, 6, 1, 1, 300000}, {2, 4, 0, 1, 250000}, {3, 2, 5, 1, 300000},
+  };
+  struct hadlephoga_set set = agreement();
+  size_t i;
+
+  for (i = 0; i < sizeof haircuts / sizeof haircuts[0]; i++) {
+    set.terms.table = haircuts[i][0];
+    set.terms.step = 1;
+    set.positions[0] = position(HADLEPHOGA_LENT, 1000000, 999, 978);
+    set.positions[0].type = haircuts[i][1];
+    set.positions[0].step = haircuts[i][2];
+    set.positions[0].issue_life = haircuts[i][3];
+    set.positions[1] = position(HADLEPHOGA_RECEIVED, 1000000, 0, 978);
+    netted(&set, 2, haircuts[i][4], haircuts[i][4] / 5);
+    set.positions[0].side = HADLEPHOGA_RECEIVED;
+    set.positions[1].side = HADLEPHOGA_LENT;
+    if (i < 24)
+      netted(&set, 2, haircuts[i][4], haircuts[i][4] / 5);
+    else
+      reply_is(&set, 2, 16);
+  }
+}
+
+/* The range of each number, the set's six and a position's seven, and its refusal. The
+ * position is the bond, for which types 2 to 6 are taken; 7, 8, 9 have no step and 1 has
+ * no number besides. */
+static void ranges_of_netting(void)
+{
+  static const uint64_t ranges[][3] = {
+      {2, 3, 2}, {1, 3, 2}, {0, 6, 3}, {0, 6, 3}, {1, 999, 4}, {1, 60, 5},
+      {1, 2, 2}, {0, LIMIT, 1}, {1, 999, 5}, {2, 6, 2}, {0, 6, 3}, {1, 100000, 5}, {1, 999, 4},
+  };
+  const struct hadlephoga_set set = agreement();
+  uint64_t numbers[HADLEPHOGA_SET_LENGTH(1)];
+  size_t i;
+
+  memcpy(numbers, &set, sizeof numbers);
+  for (i = 0; i < HADLEPHOGA_SET_LENGTH(1); i++) {
+    const uint64_t number = numbers[i];
+    const int codes = i == 1 || i == 9;
+
+    numbers[i] = ranges[i][0];
+    replied(numbers, HADLEPHOGA_SET_LENGTH(1), 0);
+    numbers[i] = ranges[i][1];
+    replied(numbers, HADLEPHOGA_SET_LENGTH(1), 0);
+    /* Retail is known, and so are equity and gold, but not with a step. */
+    numbers[i] = ranges[i][1] + 1;
+    replied(numbers, HADLEPHOGA_SET_LENGTH(1), codes ? 3 : ranges[i][2]);
+    numbers[i] = codes ? 0 : ranges[i][0] - 1;
+    replied(numbers, HADLEPHOGA_SET_LENGTH(1), ranges[i][2]);
+    numbers[i] = (UINT64_C(1) << 32) + ranges[i][0];
+    replied(numbers, HADLEPHOGA_SET_LENGTH(1), i == 7 ? 0 : ranges[i][2]);
+    numbers[i] = UINT64_MAX;
+    replied(numbers, HADLEPHOGA_SET_LENGTH(1), ranges[i][2]);
+    numbers[i] = number;
+  }
+}
+
+/* Numbers and steps that do not go with a type, each by its own refusal. */
+static void refused_by_type(void)
+{
+  static const struct {
+    uint64_t numbers[4]; /* security, type, step, issue life */
+    uint64_t refusal;
+  } entries[] = {
+      {{0, 1, 0, 0}, 0}, {{1, 1, 0, 0}, 5}, {{0, 1, 1, 0}, 3}, {{0, 1, 0, 1}, 5}, {{0, 7, 0, 0}, 5}, {{1, 7, 0, 0}, 0},
+      {{1, 7, 0, 1}, 5}, {{1, 8, 1, 0}, 3}, {{1, 9, 0, 0}, 0}, {{0, 2, 1, 1}, 5}, {{1, 2, 1, 0}, 5}, {{1, 6, 0, 1}, 0},
+      {{1, 0, 0, 1}, 2}, {{1, 10, 0, 1}, 2},
+  };
+  struct hadlephoga_set set = agreement();
+  size_t i;
+
+  for (i = 0; i < sizeof entries / sizeof entries[0]; i++) {
+    set.positions[0].security = entries[i].numbers[0];
+    set.positions[0].type = entries[i].numbers[1];
+    set.positions[0].step = entries[i].numbers[2];
+    set.positions[0].issue_life = entries[i].numbers[3];
+    reply_is(&set, 1, entries[i].refusal);
+  }
+  set = agreement();
+  set.terms.counterparty_class = 4;
+  reply_is(&set, 6, 3);
+  set.terms.step = 0;
+  set.terms.sovereign_step = 1;
+  reply_is(&set, 6, 3);
+  set.terms.counterparty_class = 1;
+  reply_is(&set, 6, 3);
+}
+
+/* Every fault of a position at once, mended in the order of their refusals, with an
+ * amount above the limit in the position behind. */
+static void order_of_refusals(void)
+{
+  struct hadlephoga_set set = agreement();
+  struct hadlephoga_position *first = &set.positions[0];
+
+  memset(first, 0xFF, sizeof *first);
+  set.positions[1].amount = LIMIT + 1;
+  reply_is(&set, 6, 1);
+  first->amount = 0;
+  reply_is(&set, 6, 2);
+  first->side = HADLEPHOGA_LENT;
+  reply_is(&set, 6, 2);
+  first->type = 2;
+  reply_is(&set, 6, 3);
+  first->step = 1;
+  reply_is(&set, 6, 4);
+  first->currency = 978;
+  reply_is(&set, 6, 5);
+  first->security = 101;
+  reply_is(&set, 6, 5);
+  first->issue_life = 720;
+  reply_is(&set, 6, 1);
+  set.positions[1].amount = 0;
+  reply_is(&set, 6, 0);
+}
+
+/* The bond's second entry, in each number that has to agree with the first one. */
+static void entries_that_disagree(void)
+{
+  struct hadlephoga_set set = agreement();
+
+  set.positions[2].type = 3;
+  reply_is(&set, 6, 15);
+  set = agreement();
+  set.positions[2].step = 3;
+  reply_is(&set, 6, 15);
+  set = agreement();
+  set.positions[2].issue_life = 719;
+  reply_is(&set, 6, 15);
+  set = agreement();
+  set.positions[2].currency = 840;
+  reply_is(&set, 6, 15);
+  set.positions[2].security = 102;
+  reply_is(&set, 6, 0);
+}
+
+/* What is asked of all positions together, in its order, behind their own numbers. */
+static void refused_together(void)
+{
+  struct hadlephoga_set set = agreement();
+
+  /* Received, unrated bank debt and a re-securitisation, of amount 0 too; then it is lent. */
+  set.positions[4].type = 4;
+  set.positions[4].step = 0;
+  reply_is(&set, 6, 16);
+  set.positions[4].type = 6;
+  set.positions[4].amount = 0;
+  reply_is(&set, 6, 16);
+  set.positions[4].side = HADLEPHOGA_LENT;
+  reply_is(&set, 6, 0);
+  /* All amounts are 2,950,000. */
+  set = agreement();
+  set.positions[1].amount += LIMIT - 2950000;
+  netted(&set, 6, 0, 0);
+  set.positions[1].amount++;
+  reply_is(&set, 6, 17);
+  set.positions[4].step = 0;
+  reply_is(&set, 6, 16);
+  set.positions[2].step = 0;
+  reply_is(&set, 6, 15);
+  set.positions[5].amount = LIMIT + 1;
+  reply_is(&set, 6, 1);
+  set.terms.interval = 61;
+  reply_is(&set, 6, 5);
+}
+
+/* A list has six numbers and seven for each position, before anything else is asked; the
+ * positions are no more than 32, behind the set's own numbers. */
+static void lengths_of_sets(void)
+{
+  static uint64_t taken[LONGEST_SET], largest[LONGEST_SET];
+  const struct hadlephoga_set set = agreement();
+  const struct hadlephoga_position cash = position(HADLEPHOGA_LENT, 2, 0, 978);
+  struct figures figures;
+  size_t length, i;
+
+  memcpy(taken, &set.terms, sizeof set.terms);
+  for (i = 0; i < HADLEPHOGA_POSITIONS + 2; i++)
+    memcpy(taken + HADLEPHOGA_SET_LENGTH(i), &cash, sizeof cash);
+  memset(largest, 0xFF, sizeof largest);
+  for (length = 0; length <= LONGEST_SET; length++) {
+    const int whole = length >= 6 && (length - 6) % 7 == 0;
+
+    figures = replied(taken, length, !whole ? 11 : length > 230 ? 6 : 0);
+    if (whole && length <= 230) {
+      IS(figures.exposure, 2 * ((length - 6) / 7));
+      IS(figures.rwa, (length - 6) / 7);
+    }
+    replied(largest, length, whole ? 2 : 11);
+  }
+  replied(taken, 13, 0);
+  replied(taken, 230, 0);
+  replied(taken, 0, 11);
+  replied(taken, 5, 11);
+  replied(taken, 7, 11);
+  replied(taken, 12, 11);
+  replied(taken, 237, 6);
+}
+
+/* The largest number in each place of a full set, alone. */
+static void largest_numbers_in_sets(void)
+{
+  static const uint64_t refusals[] = {2, 2, 3, 3, 4, 5, 2, 1, 5, 2, 3, 5, 4};
+  struct hadlephoga_set set = agreement();
+  uint64_t numbers[HADLEPHOGA_SET_LENGTH(HADLEPHOGA_POSITIONS)];
+  size_t i;
+
+  for (i = 6; i < HADLEPHOGA_POSITIONS; i++)
+    set.positions[i] = set.positions[i % 6];
+  memcpy(numbers, &set, sizeof set);
+  replied(numbers, sizeof numbers / sizeof numbers[0], 0);
+  for (i = 0; i < sizeof numbers / sizeof numbers[0]; i++) {
+    const uint64_t number = numbers[i];
+
+    numbers[i] = UINT64_MAX;
+    replied(numbers, sizeof numbers / sizeof numbers[0], refusals[i < 6 ? i : 6 + (i - 6) % 7]);
+    numbers[i] = number;
+  }
+  IS(hadlephoga_layout(), 4);
+}
+
+static void netting_sets(void)
+{
+  meanings_of_set_terms();
+  meanings_of_positions();
+  ends_of_netting();
+  haircuts_in_sets();
+  ranges_of_netting();
+  refused_by_type();
+  order_of_refusals();
+  entries_that_disagree();
+  refused_together();
+  lengths_of_sets();
+  largest_numbers_in_sets();
+}
+
 int main(void)
 {
   lengths();
@@ -1567,6 +2062,7 @@ int main(void)
   places_of_deal();
   places_of_report();
   places_of_answer();
+  places_of_set();
   meanings();
   records_not_accepted();
   built();
@@ -1590,5 +2086,6 @@ int main(void)
   answers_of_mail(two_deals);
   answers_of_mail(two_deals_with_sovereigns);
   answers_of_mail(two_deals_of_2023);
+  netting_sets();
   return 0;
 }

@@ -1,7 +1,8 @@
 /*
  * Credit-risk relief of a book of deals, or of one deal: haircuts, recognised
  * values and what was lost on the way to them, covered portions and weighted
- * amounts under CRE20 and CRE22, with the tables of 2019 or of 2023.
+ * amounts under CRE20 and CRE22, with the tables of 2019 or of 2023; and the exposure
+ * and weighted amount of a netting set of repo-style transactions.
  *
  * Link with libhadlephoga.a, and compare HADLEPHOGA_LAYOUT with
  * hadlephoga_layout() before anything else: where they differ, header and
@@ -42,16 +43,17 @@ extern "C" {
  *      portion stands behind these: outcome 6, cover 7, report 211. Figures,
  *      grounds, records and refusals are as they were. A program built for layout 3
  *      lends 83 numbers for a report, which is refused by 13, and nothing is written.
- *      hadlephoga_repair_book came with this layout, and refusals 20 and 41 with it.
+ *      hadlephoga_repair_book came with this layout, and refusals 20 and 41 with it;
+ *      hadlephoga_net_set likewise, with refusals 15, 16 and 17.
  *
  * The rule of change. The layout is how many numbers there are of terms, of an
- * item, of a record and of a report, their order and what each of them means; the
- * arguments of the operations; and what the numbers of refusals and grounds mean.
- * Whenever any of it changes, the number rises by 1, in the same landing, and the
- * list above says what changed. While the number stays, a program that was built
- * for it gets, for every call that was taken, the answer it would have got before;
- * what was refused may be taken later. An operation that is new beside the others
- * leaves the number alone.
+ * item, of a record, of a report, of a set's terms and of a position, their order and
+ * what each of them means; the arguments of the operations; and what the numbers of
+ * refusals and grounds mean. Whenever any of it changes, the number rises by 1, in the
+ * same landing, and the list above says what changed. While the number stays, a program
+ * that was built for it gets, for every call that was taken, the answer it would have
+ * got before; what was refused may be taken later. An operation that is new beside the
+ * others leaves the number alone.
  */
 #define HADLEPHOGA_LAYOUT 4
 
@@ -60,6 +62,7 @@ uint64_t hadlephoga_layout(void);
 
 #define HADLEPHOGA_BOOK_LIMIT 65536 /* bytes of a book */
 #define HADLEPHOGA_ITEMS 16         /* places of collateral, and of guarantees and swaps together */
+#define HADLEPHOGA_POSITIONS 32     /* the most of a netting set */
 
 /* How many numbers there are of each. */
 #define HADLEPHOGA_ANSWER_LENGTH 4 /* that answer a deal of a book */
@@ -70,6 +73,8 @@ uint64_t hadlephoga_layout(void);
 #define HADLEPHOGA_HELD_GUARANTEE_WIDTH (HADLEPHOGA_GUARANTEE_WIDTH + 1) /* either, in a record */
 #define HADLEPHOGA_OUTCOME_WIDTH 6                                       /* that report an item of collateral */
 #define HADLEPHOGA_COVER_WIDTH (HADLEPHOGA_OUTCOME_WIDTH + 1)            /* that report a guarantee or a swap */
+#define HADLEPHOGA_SET_TERMS_WIDTH 6                                     /* of a netting set, without positions */
+#define HADLEPHOGA_POSITION_WIDTH 7
 
 /* Of a record: the terms, and each list's count and places. */
 #define HADLEPHOGA_RECORD_LENGTH \
@@ -79,6 +84,9 @@ uint64_t hadlephoga_layout(void);
 /* Of a report: E*, both lists' places, the rest and the weighted amount. */
 #define HADLEPHOGA_REPORT_LENGTH \
   (1 + HADLEPHOGA_ITEMS * HADLEPHOGA_OUTCOME_WIDTH + HADLEPHOGA_ITEMS * HADLEPHOGA_COVER_WIDTH + 2)
+
+/* Of a netting set with so many positions. */
+#define HADLEPHOGA_SET_LENGTH(positions) (HADLEPHOGA_SET_TERMS_WIDTH + (positions) * HADLEPHOGA_POSITION_WIDTH)
 
 /*
  * Answers a book. Returns 0, or the refusal of the whole book, the first met:
@@ -176,12 +184,49 @@ uint64_t hadlephoga_add_swap(uint64_t *record, size_t record_length,
 uint64_t hadlephoga_report_deal(const uint64_t *record, size_t record_length,
                                 uint64_t *report, size_t report_length);
 
+/*
+ * Nets a set of repo-style transactions under a master netting agreement (CRE22.71 to
+ * CRE22.73). Returns the first that applies:
+ *
+ *   11  set_length is not HADLEPHOGA_SET_LENGTH of a count of positions
+ *    2, 3, 4, 5, as below, of the set's terms
+ *    6  there are more than HADLEPHOGA_POSITIONS positions
+ *    1, 2, 3, 4, 5, as below, of the first position that is refused
+ *   15  two positions of one security, not 0, differ in type, step, life or currency
+ *   16  received goods are not eligible as collateral: type 6; type 2 at steps 0, 5, 6;
+ *       types 3, 4, 5 at 0 or above 3. An amount of 0 makes no difference, nor that
+ *       as much or more of the security was lent
+ *   17  the amounts of all positions, lent and received, sum to more than
+ *       1,000,000,000,000
+ *    0  otherwise: *exposure is E*, *rwa the weighted amount
+ *
+ * With a refusal both are written as 0. set has the layout of struct
+ * hadlephoga_set_terms and behind it, for each position, that of struct
+ * hadlephoga_position; positions may stand in any order, and there may be none.
+ *
+ * A net is what was lent less what was received, with its sign. E* is the net of all
+ * positions, plus each security's absolute net times its haircut, plus the absolute net
+ * of each currency other than the settlement currency times the currency haircut, 8
+ * percent. Cash is in the net of its currency, and in none of a security. The haircut of
+ * a security is that of collateral by the set's table; of goods that are not eligible,
+ * which can only have been lent, it is that of such lent goods. Every haircut is scaled
+ * by itself to n = interval + 4 business days: H millionths become the least h with
+ * 10 x h x h at or above H x H x n. The sum is rounded up once; E* is not below 0 and
+ * not above all that was lent. The weighted amount is E* times the counterparty's
+ * weight, with its floor, divided by 100 and rounded up.
+ */
+uint64_t hadlephoga_net_set(const uint64_t *set, size_t set_length,
+                            uint64_t *exposure, uint64_t *rwa);
+
 /* Refusals of a line of a book, of opening and of adding: 11 malformed (unknown
  * letter, wrong number of fields, bad number, no line feed), before all others; 6
  * that list is full; 1 amount over the limit; 2 unknown edition, class, kind or
  * type; 3 step or sovereign's step above 6, or not 0 where 0 is due; 4 currency; 5
  * interval, term or issue life outside its range; 7 residual term above original;
- * 8 a condition neither 0 nor 1. */
+ * 8 a condition neither 0 nor 1.
+ *
+ * Of a netting set, 1 to 5 say the same of its fields: 2 falls on an unknown table or
+ * side too, 5 on an interval above 60 and on a wrong security number. */
 
 /* The answer to a deal of a book. */
 struct hadlephoga_answer {
@@ -346,6 +391,38 @@ struct hadlephoga_report {
   uint64_t weighted_amount;
 };
 
+/* The terms of a netting set. Under both tables an unrated bank or corporate weighs at
+ * least what its sovereign weighs. */
+struct hadlephoga_set_terms {
+  uint64_t table;              /* 2 haircuts and weights of 2019, 3 those of 2023 */
+  uint64_t counterparty_class; /* 1 sovereign, 2 bank, 3 corporate, 4 retail (step 0) */
+  uint64_t step;
+  uint64_t sovereign_step; /* of the counterparty's sovereign */
+  uint64_t settlement_currency;
+  uint64_t interval; /* of revaluation, 1 to 60 business days */
+};
+
+/* Sides of a position. */
+#define HADLEPHOGA_LENT 1
+#define HADLEPHOGA_RECEIVED 2
+
+/* A position of a netting set. */
+struct hadlephoga_position {
+  uint64_t side;       /* 1 lent, 2 received */
+  uint64_t amount;
+  uint64_t security;   /* its number, 1 to 999, by which it is netted; 0 for cash and nothing else */
+  uint64_t type;       /* of goods */
+  uint64_t step;
+  uint64_t issue_life; /* of the security itself */
+  uint64_t currency;
+};
+
+/* A netting set with a place for every position it may have. */
+struct hadlephoga_set {
+  struct hadlephoga_set_terms terms;
+  struct hadlephoga_position positions[HADLEPHOGA_POSITIONS];
+};
+
 /* The structs are their numbers, one behind the other. C99 has no static assertion to check it. */
 #if defined(__cplusplus) && __cplusplus >= 201103L
 #define HADLEPHOGA_ASSERT static_assert
@@ -365,6 +442,11 @@ HADLEPHOGA_ASSERT(sizeof(struct hadlephoga_deal) == HADLEPHOGA_RECORD_LENGTH * s
 HADLEPHOGA_ASSERT(sizeof(struct hadlephoga_outcome) == HADLEPHOGA_OUTCOME_WIDTH * sizeof(uint64_t), "an outcome");
 HADLEPHOGA_ASSERT(sizeof(struct hadlephoga_cover) == HADLEPHOGA_COVER_WIDTH * sizeof(uint64_t), "a cover");
 HADLEPHOGA_ASSERT(sizeof(struct hadlephoga_report) == HADLEPHOGA_REPORT_LENGTH * sizeof(uint64_t), "a report");
+HADLEPHOGA_ASSERT(sizeof(struct hadlephoga_set_terms) == HADLEPHOGA_SET_TERMS_WIDTH * sizeof(uint64_t),
+                  "terms of a netting set");
+HADLEPHOGA_ASSERT(sizeof(struct hadlephoga_position) == HADLEPHOGA_POSITION_WIDTH * sizeof(uint64_t), "a position");
+HADLEPHOGA_ASSERT(sizeof(struct hadlephoga_set) == HADLEPHOGA_SET_LENGTH(HADLEPHOGA_POSITIONS) * sizeof(uint64_t),
+                  "a netting set");
 #undef HADLEPHOGA_ASSERT
 #endif
 
@@ -412,6 +494,14 @@ static inline uint64_t hadlephoga_report_of(const struct hadlephoga_deal *deal, 
 {
   return hadlephoga_report_deal((const uint64_t *)deal, HADLEPHOGA_RECORD_LENGTH,
                                 (uint64_t *)report, HADLEPHOGA_REPORT_LENGTH);
+}
+
+/* hadlephoga_net_set of a struct whose first count positions are the set's; 0, 1 to 5
+ * or 15 to 17. count is at most HADLEPHOGA_POSITIONS: more positions, which are 6, are
+ * passed as numbers. */
+static inline uint64_t hadlephoga_net(const struct hadlephoga_set *set, size_t count, uint64_t *exposure, uint64_t *rwa)
+{
+  return hadlephoga_net_set((const uint64_t *)set, HADLEPHOGA_SET_LENGTH(count), exposure, rwa);
 }
 
 #ifdef __cplusplus

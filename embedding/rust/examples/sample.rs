@@ -1,11 +1,12 @@
 //! Answers the sample book of document 01, repairs it after it came by mail, builds and
 //! reports a deal of its own, and reports one without and with the floor of edition 2,
 //! one by the tables of 2019 and of 2023, one with a swap of each kind, and one whose
-//! items lose by every step.
+//! items lose by every step; and nets a set of repo-style transactions.
 
 use hadlephoga::{
-    add_collateral, add_guarantee, add_swap, answer_book, open, repair_book, report, Collateral,
-    Guarantee, Outcome, Refusal, Report, Swap, Terms, Valuation, ANSWER_LENGTH,
+    add_collateral, add_guarantee, add_swap, answer_book, net_set, open, repair_book, report,
+    Collateral, Guarantee, NettingSet, Outcome, Position, Refusal, Report, SetTerms, Swap, Terms,
+    Valuation, ANSWER_LENGTH, LENT, RECEIVED,
 };
 
 const SAMPLE: &[u8] = b"CRM\t1\n\
@@ -52,7 +53,8 @@ fn main() -> Result<(), Refusal> {
         "swaps {without} and {with}, guarantee {guarantee}, rest {}, weighted amount {}",
         report.rest, report.weighted_amount
     );
-    report_losses()
+    report_losses()?;
+    show_netting()
 }
 
 /// Where an item's amount went.
@@ -308,5 +310,88 @@ fn report_losses() -> Result<(), Refusal> {
         println!("cash: {}", told(*outcome));
     }
     println!("swap: {}", told(report.guarantees[0].outcome));
+    Ok(())
+}
+
+/// A netting set with a bank at step 2, settled in euros. A bond was lent and part of it
+/// came back; equity in dollars was lent, a corporate's bond in dollars and cash of both
+/// currencies were received.
+///
+/// Lent less received, 1,500,000 less 1,450,000, is 50,000. The bond's net is 600,000, the
+/// equity's 500,000, that of the corporate's bond 300,000 received, the dollars' 150,000.
+/// An interval of 6 makes n 10, for which the tables stand; with daily revaluation n is 5.
+///
+/// Table 2: 2% of the bond 12,000, 15% of the equity 75,000, 6% of the corporate's 18,000,
+/// 8% of the dollars 12,000: E* 167,000, at 50% 83,500.
+/// Table 3: 12,000, 20% of the equity 100,000, 4% of the corporate's 12,000, 12,000: E*
+/// 186,000, at 30% 55,800.
+/// Table 2, daily: 1.4143%, 10.6067%, 4.2427% and 5.6569% give 8,485.80, 53,033.50,
+/// 12,728.10 and 8,485.35: E* 132,732.75, up to 132,733, at 50% 66,366.5, up to 66,367.
+fn netting_set() -> NettingSet {
+    let bond = position(1_000_000, 101, [2, 1, 720]);
+    let in_dollars = |position| Position {
+        currency: 840,
+        ..position
+    };
+    let received = |position| Position {
+        side: RECEIVED,
+        ..position
+    };
+    NettingSet {
+        terms: SetTerms {
+            table: 2,
+            class: 2,
+            step: 2,
+            settlement_currency: 978,
+            interval: 6,
+            ..SetTerms::default()
+        },
+        positions: vec![
+            bond,
+            received(position(700_000, 0, [1, 0, 0])),
+            received(Position {
+                amount: 400_000,
+                ..bond
+            }),
+            in_dollars(position(500_000, 202, [7, 0, 0])),
+            received(in_dollars(position(300_000, 303, [3, 2, 720]))),
+            received(in_dollars(position(50_000, 0, [1, 0, 0]))),
+        ],
+    }
+}
+
+/// Lent, in euros.
+fn position(amount: u64, security: u64, [goods, step, issue_life]: [u64; 3]) -> Position {
+    Position {
+        side: LENT,
+        amount,
+        security,
+        goods,
+        step,
+        issue_life,
+        currency: 978,
+    }
+}
+
+fn show_netting() -> Result<(), Refusal> {
+    for (table, interval) in [(2, 6), (3, 6), (2, 1)] {
+        let mut set = netting_set();
+        (set.terms.table, set.terms.interval) = (table, interval);
+        let netted = net_set(&set)?;
+        println!(
+            "netting set, table {table}, interval {interval}: E* {}, weighted amount {}",
+            netted.exposure, netted.rwa
+        );
+    }
+    // An entry for the bond that says another step than the first one, and received
+    // bank debt that is unrated.
+    let (mut at_odds, mut unrated) = (netting_set(), netting_set());
+    at_odds.positions[2].step = 2;
+    (unrated.positions[4].goods, unrated.positions[4].step) = (4, 0);
+    for set in [at_odds, unrated] {
+        if let Err(refusal) = net_set(&set) {
+            println!("not netted, {refusal}");
+        }
+    }
     Ok(())
 }

@@ -60,6 +60,12 @@ extern "C" {
         report: *mut u64,
         report_length: usize,
     ) -> u64;
+    fn hadlephoga_net_set(
+        set: *const u64,
+        set_length: usize,
+        exposure: *mut u64,
+        rwa: *mut u64,
+    ) -> u64;
 }
 
 /// The number of the layout that the linked library has.
@@ -269,5 +275,32 @@ pub fn report(record: &Record) -> Result<Report, Refusal> {
     match report_numbers(&record.to_numbers(), &mut numbers) {
         0 => Ok(Report::from_numbers(&numbers)),
         refusal => Err(Refusal(refusal)),
+    }
+}
+
+/// The reply to a netting set: its refusal or 0, E* and the risk-weighted amount.
+/// Both are 0 beside a refusal.
+#[derive(Clone, Copy, Debug, PartialEq, Eq)]
+pub struct NettingReply {
+    pub refusal: u64,
+    pub exposure: u64,
+    pub rwa: u64,
+}
+
+/// Nets a set given as numbers, in the layout of
+/// [`NettingSet::to_numbers`](crate::NettingSet::to_numbers). The refusal is 11 where
+/// they are not six and seven for each position, else 2, 3, 4 or 5 of the six, else 6
+/// where there are more than 32 positions, else 1, 2, 3, 4 or 5 of the first position
+/// that has one, else 15, 16 or 17 of all positions, else 0.
+pub fn net_set_numbers(set: &[u64]) -> NettingReply {
+    compare_once();
+    // No figures, as in `answer_book_numbers`.
+    let (mut exposure, mut rwa) = (u64::MAX, u64::MAX);
+    // SAFETY: as in `answer_book_numbers`, with both figures borrowed alone.
+    let refusal = unsafe { hadlephoga_net_set(set.as_ptr(), set.len(), &mut exposure, &mut rwa) };
+    NettingReply {
+        refusal,
+        exposure,
+        rwa,
     }
 }

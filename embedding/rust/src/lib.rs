@@ -4,10 +4,11 @@
 //! came by mail is repaired first, by [`repair_book`]. One deal is opened by
 //! [`open`], gets its items by [`add_collateral`], [`add_guarantee`] and
 //! [`add_swap`], and is reported by [`report`], with what became of every item: its
-//! value and where the rest of its amount went, or the ground for leaving it out.
-//! All answer every input with figures or a [`Refusal`]; nothing panics, save the
-//! first call in a program that was linked with a library of another layout of
-//! numbers than [`LAYOUT`].
+//! value and where the rest of its amount went, or the ground for leaving it out. A
+//! set of repo-style transactions under a master netting agreement is netted by
+//! [`net_set`]. All answer every input with figures or a [`Refusal`]; nothing panics,
+//! save the first call in a program that was linked with a library of another layout
+//! of numbers than [`LAYOUT`].
 //!
 //! ```
 //! let book = b"CRM\t1\nD\t900\t4\t0\t978\t3\t1\t90\t1\t0\t0\n";
@@ -74,10 +75,28 @@
 //! assert_eq!(report.collateral[0], Outcome::Valued(valuation));
 //! assert_eq!(valuation.value + valuation.losses(), cash.amount);
 //! ```
+//!
+//! A netting set with a bank that weighs 50: a sovereign's bond was lent and less of it
+//! came back, with cash besides. Lent less received is 100,000; of the bond 600,000 net,
+//! with a haircut of 2 percent, adds 12,000:
+//!
+//! ```
+//! use hadlephoga::{net_set, Netted, NettingSet, Position, SetTerms, LENT, RECEIVED};
+//!
+//! let bond = |side, amount| Position::from_numbers(&[side, amount, 101, 2, 1, 720, 978]);
+//! let cash = |side, amount| Position::from_numbers(&[side, amount, 0, 1, 0, 0, 978]);
+//! let set = NettingSet {
+//!     terms: SetTerms::from_numbers(&[2, 2, 2, 0, 978, 6]),
+//!     positions: vec![bond(LENT, 1_000_000), bond(RECEIVED, 400_000), cash(RECEIVED, 500_000)],
+//! };
+//! let due = Netted { exposure: 112_000, rwa: 56_000 };
+//! assert_eq!(net_set(&set), Ok(due));
+//! ```
 
 mod calls;
 mod layout;
 mod mail;
+mod netting;
 mod numbers;
 mod record;
 mod refusal;
@@ -85,11 +104,13 @@ mod report;
 
 pub use calls::{
     add_collateral, add_collateral_numbers, add_guarantee, add_guarantee_numbers, add_swap,
-    add_swap_numbers, answer_book, answer_book_numbers, layout, open, open_numbers,
-    repair_book_numbers, report, report_numbers, BookReply, RepairReply, ANSWER_LENGTH, BOOK_LIMIT,
+    add_swap_numbers, answer_book, answer_book_numbers, layout, net_set_numbers, open,
+    open_numbers, repair_book_numbers, report, report_numbers, BookReply, NettingReply,
+    RepairReply, ANSWER_LENGTH, BOOK_LIMIT,
 };
 pub use layout::LAYOUT;
 pub use mail::{repair_book, Repaired};
+pub use netting::{net_set, Netted, NettingSet, Position, SetTerms, LENT, POSITIONS, RECEIVED};
 pub use record::{
     Collateral, Guarantee, HeldGuarantee, Record, Swap, Terms, GUARANTEE_INSTRUMENT, ITEMS,
     RECORD_LENGTH, SWAP_WITHOUT_RESTRUCTURING, SWAP_WITH_RESTRUCTURING,

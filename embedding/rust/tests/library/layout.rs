@@ -3,8 +3,8 @@
 use crate::sample::{CASH, GUARANTEE, LOAN};
 use hadlephoga::{
     add_collateral_numbers, add_guarantee_numbers, add_swap_numbers, layout, open_numbers,
-    report_numbers, Collateral, Guarantee, HeldGuarantee, Record, Swap, Terms, COVER_WIDTH, LAYOUT,
-    OUTCOME_WIDTH, RECORD_LENGTH, REPORT_LENGTH,
+    report_numbers, Collateral, Guarantee, HeldGuarantee, Position, Record, SetTerms, Swap, Terms,
+    COVER_WIDTH, LAYOUT, OUTCOME_WIDTH, POSITIONS, RECORD_LENGTH, REPORT_LENGTH,
 };
 
 /// Numbers of terms, of a guarantee and of a record in layouts 1 and 2.
@@ -24,6 +24,7 @@ fn of_the_library() {
     assert_eq!(HeldGuarantee::LENGTH, 11);
     assert_eq!([OUTCOME_WIDTH, COVER_WIDTH], [6, 7]);
     assert_eq!([RECORD_LENGTH, REPORT_LENGTH], [366, 211]);
+    assert_eq!([SetTerms::LENGTH, Position::LENGTH, POSITIONS], [6, 7, 32]);
 }
 
 /// A program that was built for layout 1 gets no answer but a refusal where it

@@ -10,6 +10,8 @@ mod layout;
 mod lines;
 mod losses;
 mod mail;
+mod netting;
+mod netting_refusals;
 mod records;
 mod sample;
 mod sovereigns;
