@@ -13,6 +13,8 @@ uint64_t exact_repair_book(const uint8_t *book, size_t book_length,
                            uint8_t *repaired, size_t repaired_length,
                            uint64_t *altered, size_t altered_length,
                            uint64_t *bytes, uint64_t *lines);
+uint64_t exact_net_set(const uint64_t *set, size_t set_length,
+                       uint64_t *exposure, uint64_t *rwa);
 uint64_t exact_open_deal(const uint64_t *terms, size_t terms_length,
                          uint64_t *record, size_t record_length);
 uint64_t exact_add_collateral(uint64_t *record, size_t record_length,

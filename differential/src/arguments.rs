@@ -8,6 +8,7 @@ use crate::sides::{Side, SIDES};
 pub const USAGE: &str = "\
 usage: differential [--seed S] [--deals N] [--seconds T] [--require-all]
        differential --seed S --book K
+       differential sets [--seed S] [--sets N] [--require-all]
        differential conformance DIR
        differential bench [--rounds R] [--headed 1|2|3]
        differential books DIR [--headed 1|2|3]
@@ -15,6 +16,7 @@ usage: differential [--seed S] [--deals N] [--seconds T] [--require-all]
 
 const SEED: u64 = 1;
 const DEALS: u64 = 200_000;
+const SETS: u64 = 100_000;
 const ROUNDS: u64 = 31;
 
 #[derive(Debug, PartialEq, Eq)]
@@ -24,6 +26,7 @@ pub enum Command {
         seed: u64,
         book: u64,
     },
+    Sets(Sets),
     Conformance(PathBuf),
     Bench {
         rounds: u64,
@@ -49,6 +52,13 @@ pub struct Run {
     pub require_all: bool,
 }
 
+#[derive(Debug, PartialEq, Eq)]
+pub struct Sets {
+    pub seed: u64,
+    pub sets: u64,
+    pub require_all: bool,
+}
+
 /// None where the arguments are not understood.
 pub fn command(arguments: &[String]) -> Option<Command> {
     let arguments: Vec<&str> = arguments.iter().map(String::as_str).collect();
@@ -57,6 +67,7 @@ pub fn command(arguments: &[String]) -> Option<Command> {
         ["books", folder] => books(folder, EDITIONS.to_vec()),
         ["books", folder, "--headed", edition] => books(folder, headed(edition)?),
         ["bench", ref options @ ..] => bench(options),
+        ["sets", ref options @ ..] => sets(options),
         ["once", side, book, calls] => Some(Command::Once {
             side: SIDES.into_iter().find(|known| known.name() == side)?,
             book: book.into(),
@@ -87,6 +98,24 @@ fn bench(options: &[&str]) -> Option<Command> {
         }
     }
     Some(Command::Bench { rounds, editions })
+}
+
+fn sets(options: &[&str]) -> Option<Command> {
+    let (mut seed, mut sets, mut require_all) = (SEED, SETS, false);
+    let mut rest = options.iter();
+    while let Some(option) = rest.next() {
+        match *option {
+            "--require-all" => require_all = true,
+            "--seed" => seed = rest.next()?.parse().ok()?,
+            "--sets" => sets = rest.next()?.parse().ok()?,
+            _ => return None,
+        }
+    }
+    Some(Command::Sets(Sets {
+        seed,
+        sets,
+        require_all,
+    }))
 }
 
 fn run(arguments: &[&str]) -> Option<Command> {
@@ -160,7 +189,25 @@ mod tests {
             parsed("--seed 7 --book 3"),
             Some(Command::OneBook { seed: 7, book: 3 })
         );
-        for wrong in ["--seed", "--seed x", "once both a 1", "conformance"] {
+        let sets = |seed, sets, require_all| {
+            Some(Command::Sets(Sets {
+                seed,
+                sets,
+                require_all,
+            }))
+        };
+        assert_eq!(parsed("sets"), sets(SEED, SETS, false));
+        assert_eq!(
+            parsed("sets --sets 9 --require-all --seed 7"),
+            sets(7, 9, true)
+        );
+        for wrong in [
+            "--seed",
+            "--seed x",
+            "once both a 1",
+            "conformance",
+            "sets --deals 9",
+        ] {
             assert_eq!(parsed(wrong), None);
         }
     }

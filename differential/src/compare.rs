@@ -22,12 +22,25 @@ use crate::tally::Tally;
 /// Where the two disagree.
 pub struct Difference {
     pub about: String,
-    /// The deal's serial and lines, the record's numbers, or the mailed text.
+    /// The deal's serial and lines, the numbers of a record or of a netting set, or the mailed
+    /// text.
     pub deal: String,
     pub proved: String,
     pub reference: String,
-    /// What came by mail, where that differs and not the book.
-    pub text: Option<Vec<u8>>,
+    /// What is left in a file, where that is not the book.
+    pub left: Option<Box<Left>>,
+}
+
+/// What came by mail, or a netting set as a line of numbers.
+pub struct Left {
+    pub what: &'static str,
+    pub bytes: Vec<u8>,
+}
+
+impl Left {
+    pub fn new(what: &'static str, bytes: Vec<u8>) -> Option<Box<Self>> {
+        Some(Box::new(Left { what, bytes }))
+    }
 }
 
 pub fn differ(about: &str, deal: String, proved: impl Debug, reference: impl Debug) -> Difference {
@@ -36,7 +49,7 @@ pub fn differ(about: &str, deal: String, proved: impl Debug, reference: impl Deb
         deal,
         proved: format!("{proved:?}"),
         reference: format!("{reference:?}"),
-        text: None,
+        left: None,
     }
 }
 

@@ -1,5 +1,5 @@
 //! Compares the proved library with the second implementation on random books,
-//! records and mailed texts and on the conformance books, and measures both.
+//! records, mailed texts and netting sets and on the conformance books, and measures both.
 
 mod alike;
 mod altered_lines;
@@ -17,10 +17,14 @@ mod damage;
 mod days;
 mod deal;
 mod debt;
+mod disagreeing;
+mod draft;
+mod due_tests;
 mod editions;
 mod first_lines;
 mod floors;
 mod full_list;
+mod furnished;
 mod haircuts;
 mod heading;
 mod held;
@@ -40,6 +44,16 @@ mod mailed;
 mod malformed;
 mod mangled;
 mod measured;
+mod mistaken_costs;
+mod mistaken_nets;
+mod mistaken_weights;
+mod net_bounds;
+mod net_figures;
+mod net_shapes;
+mod nets;
+mod netting;
+mod netting_mistakes;
+mod nettings;
 mod operations;
 mod order;
 mod outside;
@@ -47,6 +61,7 @@ mod parties;
 mod periods;
 mod proved_prints;
 mod random;
+mod received;
 mod records;
 mod repair_bench;
 mod repairs;
@@ -55,6 +70,18 @@ mod restructuring;
 mod revalued;
 mod reweighed;
 mod run;
+mod set;
+mod set_betterments;
+mod set_bounds;
+mod set_entries;
+mod set_figures;
+mod set_goods;
+mod set_laws;
+mod set_nets;
+mod set_orders;
+mod set_sizes;
+mod set_sums;
+mod sets;
 mod shapes;
 mod sides;
 mod sovereign;
@@ -67,6 +94,9 @@ mod table_haircuts;
 mod tally;
 mod unrated;
 mod values;
+mod weighing;
+mod wrong;
+mod wrong_sets;
 
 use std::process::ExitCode;
 
@@ -81,6 +111,7 @@ fn main() -> ExitCode {
     let fine = match command {
         Command::Run(options) => run::run(&options),
         Command::OneBook { seed, book } => run::one_book(seed, book),
+        Command::Sets(options) => run::sets(&options),
         Command::Conformance(folder) => told(conformance::run(&folder)),
         Command::Bench { rounds, editions } => told(bench::run(rounds, &editions)),
         Command::Books { folder, editions } => told(shapes::write(&folder, &editions)),

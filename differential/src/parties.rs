@@ -91,7 +91,7 @@ fn counterparty(terms: &Terms) -> Party {
 }
 
 /// Every party of these classes that is accepted.
-fn of_classes(classes: std::ops::RangeInclusive<u64>) -> impl Iterator<Item = Party> {
+pub fn of_classes(classes: std::ops::RangeInclusive<u64>) -> impl Iterator<Item = Party> {
     classes.flat_map(|class| {
         let steps = if class == RETAIL { 0..=0 } else { 0..=6 };
         steps

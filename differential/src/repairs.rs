@@ -3,7 +3,7 @@
 
 use hadlephoga::{RepairReply, BOOK_LIMIT};
 
-use crate::compare::Difference;
+use crate::compare::{Difference, Left};
 use crate::heading::edition_of;
 use crate::lent::{Lent, Mark, MARGIN};
 use crate::line::count_deals;
@@ -226,7 +226,7 @@ fn difference(trial: &Trial, about: &str, outcomes: &[Outcome; 2]) -> Difference
         deal: format!("text of {whole} bytes: \"{}\"", text.escape_ascii()),
         proved: shown(proved, reference),
         reference: shown(reference, proved),
-        text: Some(trial.text.to_vec()),
+        left: Left::new("mailed text", trial.text.to_vec()),
     }
 }
 

@@ -1,16 +1,19 @@
-//! Many random books, records and mailed texts through both implementations.
+//! Many random books, records, mailed texts and netting sets through both implementations.
 
 use std::path::PathBuf;
 use std::time::{Duration, Instant};
 
-use crate::arguments::Run;
+use crate::arguments::{Run, Sets};
 use crate::books::{self, Book};
+use crate::cells::Cells;
 use crate::compare::{self, Difference};
 use crate::mailed::{self, Mailed};
+use crate::nettings;
 use crate::operations;
 use crate::random::Random;
 use crate::records;
 use crate::repairs;
+use crate::sets::SETS;
 use crate::sides::SIDES;
 use crate::table;
 use crate::tally::Tally;
@@ -39,11 +42,32 @@ pub fn run(options: &Run) -> bool {
         "no difference; {seconds:.1} s, {:.0} deals per second",
         tally.counts.deals as f64 / seconds
     );
-    complete(&tally, options.require_all)
+    complete(&tally.families(), options.require_all)
 }
 
-/// One book, then records, operations and a text that came by mail; all of it from the seed and
-/// the book's number.
+/// Netting sets alone, those that stand beside the books of a run; whether all agreed and, if
+/// it was asked for, every case of them was met.
+pub fn sets(options: &Sets) -> bool {
+    let start = Instant::now();
+    let mut tally = Tally::new();
+    let numbers = options.sets.div_ceil(SETS);
+    for number in 0..numbers {
+        if let Err(difference) = nettings::nettings(options.seed, number, &mut tally) {
+            let book = books::book(options.seed, number);
+            report_difference(options.seed, number, &book, &difference);
+            return false;
+        }
+    }
+    let seconds = start.elapsed().as_secs_f64();
+    println!("seed {}, sets of {numbers} books", options.seed);
+    table::print_sets(&tally.netting);
+    println!();
+    println!("no difference; {seconds:.1} s");
+    complete(&tally.netting.families(), options.require_all)
+}
+
+/// One book, then records, operations, a text that came by mail and netting sets; all of it
+/// from the seed and the book's number.
 fn trial(seed: u64, number: u64, book: &Book, tally: &mut Tally) -> Result<(), Difference> {
     tally.counts.books += 1;
     *tally
@@ -59,12 +83,13 @@ fn trial(seed: u64, number: u64, book: &Book, tally: &mut Tally) -> Result<(), D
     }
     operations::operations(random, tally)?;
     let mailed = mailed::mailed(seed, number, &book.bytes);
-    repairs::repairs(random, &mailed, &book.bytes, tally)
+    repairs::repairs(random, &mailed, &book.bytes, tally)?;
+    nettings::nettings(seed, number, tally)
 }
 
-fn complete(tally: &Tally, require_all: bool) -> bool {
+fn complete(families: &[&Cells], require_all: bool) -> bool {
     let mut complete = true;
-    for cells in tally.families() {
+    for cells in families {
         for cell in cells.unlisted() {
             println!("{}: {cell:?} is no case of the papers", cells.title);
             complete = false;
@@ -98,8 +123,9 @@ pub fn one_book(seed: u64, number: u64) -> bool {
         }
     }
     show_mailed(&mailed::mailed(seed, number, &book.bytes));
+    nettings::show(seed, number);
     match trial(seed, number, &book, &mut Tally::new()) {
-        Ok(()) => eprintln!("no difference, records and mailed text of this number among them"),
+        Ok(()) => eprintln!("no difference, nor in records, mailed text and netting sets"),
         Err(difference) => {
             report_difference(seed, number, &book, &difference);
             return false;
@@ -129,8 +155,8 @@ fn report_difference(seed: u64, number: u64, book: &Book, difference: &Differenc
     eprintln!("again: differential --seed {seed} --book {number}");
     let target = PathBuf::from(concat!(env!("CARGO_MANIFEST_DIR"), "/../target"));
     let file = target.join("differential-failure.book");
-    let (what, bytes) = match &difference.text {
-        Some(text) => ("mailed text", text),
+    let (what, bytes) = match &difference.left {
+        Some(left) => (left.what, &left.bytes),
         None => ("book", &book.bytes),
     };
     let written = std::fs::create_dir_all(&target).and_then(|()| std::fs::write(&file, bytes));

@@ -1,12 +1,13 @@
 //! Both implementations behind the same calls on the same numbers.
 
 use hadlephoga::{
-    BookReply, Collateral, HeldGuarantee, Record, RepairReply, Terms, OUTCOME_WIDTH, RECORD_LENGTH,
-    REPORT_LENGTH,
+    BookReply, Collateral, HeldGuarantee, NettingReply, Record, RepairReply, Terms, OUTCOME_WIDTH,
+    RECORD_LENGTH, REPORT_LENGTH,
 };
 use reference::{Cover, Outcome, Valuation};
 
 use crate::held::{GUARANTEE, WITHOUT_CONDITION};
+use crate::set;
 
 #[derive(Clone, Copy, Debug, PartialEq, Eq)]
 pub enum Side {
@@ -44,6 +45,26 @@ impl Side {
                     refusal: reply.refusal,
                     bytes: reply.bytes as u64,
                     lines: reply.lines as u64,
+                }
+            }
+        }
+    }
+
+    /// Numbers that are no set are refused with 11.
+    pub fn net_set(self, set: &[u64]) -> NettingReply {
+        match self {
+            Side::Proved => hadlephoga::net_set_numbers(set),
+            Side::Reference => {
+                let no_set = reference::NettingReply {
+                    refusal: 11,
+                    ..Default::default()
+                };
+                let set = set::from_numbers(set);
+                let reply = set.map_or(no_set, |set| reference::net_set(&set));
+                NettingReply {
+                    refusal: reply.refusal,
+                    exposure: reply.exposure,
+                    rwa: reply.weighted,
                 }
             }
         }

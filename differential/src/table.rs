@@ -6,14 +6,16 @@ use crate::answers::OTHER;
 use crate::cells::Cells;
 use crate::held::WITH_CONDITION;
 use crate::mail::Mail;
+use crate::netting::Netting;
 use crate::tally::{Counts, Tally};
 
 pub fn print(tally: &Tally) {
     counted(&tally.counts);
     mailed(&tally.mail);
+    netted(&tally.netting);
     println!();
     let answers = &tally.answers;
-    let by_number = [
+    let numbered = [
         &answers.books,
         &answers.records,
         &answers.opened,
@@ -22,17 +24,31 @@ pub fn print(tally: &Tally) {
         &answers.added_swaps,
         &answers.collateral_grounds,
         &answers.guarantee_grounds,
+        &tally.netting.refusals,
     ];
-    for cells in by_number {
-        println!("{}", cells.title);
-        for (cell, count) in cells.counts() {
-            row(&format!("  {}", cell[0]), count);
-        }
+    for cells in numbered {
+        by_number(cells);
     }
     grounds_of_swaps(&answers.swap_grounds);
     lines_by_number(&answers.lines);
     println!();
     cases(&tally.families());
+}
+
+/// Of a run of netting sets alone.
+pub fn print_sets(netting: &Netting) {
+    netted(netting);
+    println!();
+    by_number(&netting.refusals);
+    println!();
+    cases(&netting.families());
+}
+
+fn by_number(cells: &Cells) {
+    println!("{}", cells.title);
+    for (cell, count) in cells.counts() {
+        row(&format!("  {}", cell[0]), count);
+    }
 }
 
 fn row(name: &str, count: u64) {
@@ -68,6 +84,15 @@ fn mailed(mail: &Mail) {
     row("  repaired", mail.repaired);
     row("  books that came back", mail.back);
     row("bytes of repairs compared", mail.bytes);
+}
+
+fn netted(netting: &Netting) {
+    row("netting sets", netting.sets.values().sum());
+    for (kind, count) in &netting.sets {
+        row(&format!("  {kind}"), *count);
+    }
+    row("  accepted before anything is wrong", netting.accepted);
+    row("sets compared, bettered and wrong ones too", netting.netted);
 }
 
 /// A row for each family, and one for all of them.

@@ -21,6 +21,7 @@ use crate::line::{self, Line};
 use crate::loss_mistakes;
 use crate::losses::Losses;
 use crate::mail::Mail;
+use crate::netting::Netting;
 use crate::order::Order;
 use crate::parties::Parties;
 use crate::report_places::ReportPlaces;
@@ -73,6 +74,7 @@ pub struct Tally {
     pub left_out: LeftOut,
     pub report_places: ReportPlaces,
     pub mail: Mail,
+    pub netting: Netting,
 }
 
 impl Tally {
@@ -113,6 +115,7 @@ impl Tally {
             left_out: LeftOut::new(),
             report_places: ReportPlaces::new(),
             mail: Mail::new(),
+            netting: Netting::new(),
         }
     }
 
@@ -136,6 +139,7 @@ impl Tally {
         families.extend(self.left_out.families());
         families.extend(self.report_places.families());
         families.extend(self.mail.families());
+        families.extend(self.netting.families());
         families
     }
 
@@ -278,11 +282,11 @@ mod tests {
         let families = tally.families();
         assert_eq!(
             families.len(),
-            1 + 11 + 2 + 4 + 2 + 4 + 2 + 3 + 2 + 4 + 6 + 3 + 2 + 4 + 1 + 2 + 3 + 12
+            1 + 11 + 2 + 4 + 2 + 4 + 2 + 3 + 2 + 4 + 6 + 3 + 2 + 4 + 1 + 2 + 3 + 12 + 29
         );
         assert_eq!(
             families.iter().map(|cells| cells.all()).sum::<usize>(),
-            11_622
+            15_552
         );
     }
 }
