@@ -67,16 +67,21 @@ netted counts ps =
 abbrev pub haircutOf : SetTerms → Position → ℕ
 haircutOf t p = scaled (tableOf (t .table) .lentHaircut (p .asset .goods) (p .asset .step) (p .asset .life)) (t .interval + 4)
 
+-- Σ (E_s × H_s), over the numbers 1 to 999
+abbrev pub ofSecurities : SetTerms → List Position → ℕ
+ofSecurities t ps = sumBelow 999 (λ k. netted (λ p. eqb (p .security) (suc k)) ps * haircutFor (haircutOf t) ps (suc k))
+
+-- Σ (E_fx × H_fx), over the numbers 1 to 999 but the settlement currency's
+abbrev pub ofCurrencies : SetTerms → List Position → ℕ
+ofCurrencies t ps =
+    sumBelow 999 (λ k. if eqb (suc k) (t .settlement) then 0 else (netted (λ p. eqb (p .currency) (suc k)) ps * scaled 80000 (t .interval + 4)))
+
 -- E* by 22.72, in millionths and rounded up once, "not below 0", as no difference of natural numbers is, "nor above all that was lent"
 abbrev pub byFormula : SetTerms → List Position → ℕ
 byFormula t ps =
-    min (allLent ps)
-    (roundUp (
-    allLent ps * 1000000
-    + sumBelow 999 (λ k. netted (λ p. eqb (p .security) (suc k)) ps * haircutFor (haircutOf t) ps (suc k))
-    + sumBelow 999 (λ k. if eqb (suc k) (t .settlement) then 0 else (netted (λ p. eqb (p .currency) (suc k)) ps * scaled 80000 (t .interval + 4)))
-    - allReceived ps * 1000000
-    ) 1000000)
+    let lent : ℕ = allLent ps * 1000000 + ofSecurities t ps + ofCurrencies t ps in
+    let received : ℕ = allReceived ps * 1000000 in
+    min (allLent ps) (roundUp (lent - received) 1000000)
 
 -- the counterparty's weight in the set's tables
 abbrev pub weightIn : SetTerms → ℕ

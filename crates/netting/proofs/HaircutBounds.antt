@@ -17,7 +17,7 @@ unfolding holdingPeriod minimumPeriod setPeriod if_then_else_
 repo-period t = omega arith
 
 module _ (t : SetTerms) where
-  pub period-low : t .interval ≤ 60 → setPeriod t ≤ 64
+  period-low : t .interval ≤ 60 → setPeriod t ≤ 64
   unfolding setPeriod
   period-low h = omega arith
 
