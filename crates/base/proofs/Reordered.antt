@@ -100,7 +100,7 @@ module _ {A : Type 0} where
     second : Inserted y xs without
     first : Inserted x without zs
 
-  either_first : {x y : A} {xs ys zs : List A} → Inserted x xs ys → Inserted y ys zs → PutEither x y xs zs
+  either_first : {x y : A} {ys zs xs : List A} → Inserted x xs ys → Inserted y ys zs → PutEither x y xs zs
   either_first i Inserted.here = record { without = _; second = Inserted.here; first = Inserted.later i }
   either_first Inserted.here (Inserted.later j) = record { without = _; second = j; first = Inserted.here }
   either_first (Inserted.later i) (Inserted.later j) =

@@ -1,4 +1,7 @@
 // What every layer uses. Its laws stand in proofs/.
+
+#![tactic(auto)]
+
 ghost use Rattle.std.specs.Prelude.{◌≡◌, min};
 ghost use Rattle.base.specs.Range.{within as within_of};
 
@@ -13,6 +16,7 @@ pub fn smaller(a: u64, b: u64) -> u64
 }
 
 // Whether a number lies in a range, both ends included.
+#[tactic(auto, unfolding(crate::specs::Range::within))]
 pub fn within(first: u64, last: u64, x: u64) -> bool
     ensures { result ≡ within_of first last x }
 {

@@ -5,7 +5,7 @@ ghost use Rattle.book.specs.Heading.{edition_of, heading_of, is_wrong};
 use text::same;
 
 // What the first line says.
-#[derive(Drop)]
+#[derive(Clone, Copy)]
 pub enum Heading {
     // The number in its second field.
     Edition(u64),

@@ -20,7 +20,7 @@ use relief::factors::TimeFactors;
 use relief::report::full_report;
 use text::line_end;
 
-#[derive(Drop)]
+#[derive(Clone, Copy)]
 pub struct DealResult {
     pub refusal: u64,
     // The exposure after collateral, or the number of the refused line.
@@ -32,7 +32,7 @@ pub struct DealResult {
 }
 
 // A deal's answer, and the time factors of its periods, which the next deal may share.
-#[derive(Drop)]
+#[derive(Clone, Copy)]
 pub struct ResultAndFactors {
     pub answer: DealResult,
     pub factors: TimeFactors,

@@ -15,7 +15,7 @@ const NO_DEAL_FIRST: u64 = 12;
 
 const LIST_TOO_SHORT: u64 = 13;
 
-#[derive(Drop)]
+#[derive(Clone, Copy)]
 pub struct BookReply {
     // The refusal of the whole book, or 0.
     pub refusal: u64,

@@ -41,7 +41,7 @@ pub fn numbers(line: &[u8], numbers: &mut [u64; ROOM]) -> usize
 }
 
 // What the bytes of a line have come to.
-#[derive(Drop)]
+#[derive(Clone, Copy)]
 enum Reading {
     Word,
     Number,

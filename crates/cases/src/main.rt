@@ -1,5 +1,8 @@
 // The program cases: runs the lines of its files through opening, adding, reporting, answering, repairing and netting, and prints
 // each reply whole. The file stdout beside src/ holds what documents 01 and 02 give.
+
+#![tactic(auto)]
+
 ghost use Rattle.std.specs.Prelude.{◌≤◌};
 ghost use Rattle.io.specs.Counts.{IsPrefixLen};
 

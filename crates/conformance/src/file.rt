@@ -6,7 +6,7 @@ const LONGEST_NAME: usize = 80;
 
 const LONGEST_ENDING: usize = 16;
 
-#[derive(Drop)]
+#[derive(Clone, Copy)]
 pub struct Content {
     pub found: bool,
     pub count: usize,

@@ -5,7 +5,7 @@ ghost use Rattle.text.specs.Text.{lines_of};
 use crate::run::run;
 use text::line_end;
 
-#[derive(Drop)]
+#[derive(Clone, Copy)]
 pub struct Tally {
     pub books: u64,
     // Of these, those whose answer is missing or another.

@@ -1,4 +1,7 @@
 // The program conformance: answers every book of the set and compares each answer, byte for byte.
+
+#![tactic(auto)]
+
 mod file;
 mod index;
 mod run;

@@ -1,4 +1,7 @@
 // The program crmbook: reads a book on standard input and writes its result on standard output.
+
+#![tactic(auto)]
+
 use input::read_input;
 use libc::{STDERR_FILENO, STDOUT_FILENO};
 use response::respond;

@@ -1,5 +1,8 @@
 // The program crmrepair: reads a book that came by mail on standard input, writes the repaired book on standard output and the numbers of
 // the altered lines on standard error, or only its refusal there.
+
+#![tactic(auto)]
+
 use input::read_input;
 use libc::{STDERR_FILENO, STDOUT_FILENO};
 use repairing::respond;

@@ -7,7 +7,7 @@ ghost use Rattle.deal.specs.Checks.{field_tests};
 use crate::answer::Answer;
 
 // Whether each kind of field is as it should be, in the order of the refusals.
-#[derive(Drop)]
+#[derive(Clone, Copy)]
 pub struct FieldChecks {
     pub amount: bool,
     // Class, kind, type and edition.

@@ -9,7 +9,7 @@ use crate::checks::FieldChecks;
 use crate::deal::Deal;
 use crate::ranges::{amount_allowed, condition_allowed, currency_allowed, days_allowed};
 
-#[derive(Drop)]
+#[derive(Clone, Copy)]
 pub struct Collateral {
     pub amount: u64,
     pub asset: Asset,
@@ -25,14 +25,14 @@ pub struct Collateral {
     pub listed: u64,
 }
 
-#[derive(Drop)]
+#[derive(Clone, Copy)]
 pub struct CollateralList {
     pub items: [Collateral; Deal::COLLATERAL_LIMIT],
     pub count: usize,
 }
 
 // A list after an addition, and what adding answers. The list stands first, which spares the code that is made a copy.
-#[derive(Drop)]
+#[derive(Clone, Copy)]
 pub struct AddedCollateral {
     pub list: CollateralList,
     pub answer: Answer,

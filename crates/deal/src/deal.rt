@@ -11,7 +11,7 @@ use crate::collateral::{Collateral, CollateralList};
 use crate::guarantee::{Guarantee, GuaranteeList};
 use crate::terms::Terms;
 
-#[derive(Drop)]
+#[derive(Clone, Copy)]
 pub struct Deal {
     pub terms: Terms,
     pub collateral: CollateralList,
@@ -19,7 +19,7 @@ pub struct Deal {
 }
 
 // What an operation answers, and the deal after it.
-#[derive(Drop)]
+#[derive(Clone, Copy)]
 pub struct DealReply {
     pub answer: Answer,
     pub deal: Deal,

@@ -11,7 +11,7 @@ use crate::instrument::{GUARANTEE, instrument_allowed, swap_with};
 use crate::party::Party;
 use crate::ranges::{amount_allowed, condition_allowed, currency_allowed, days_allowed};
 
-#[derive(Drop)]
+#[derive(Clone, Copy)]
 pub struct Guarantee {
     pub amount: u64,
     pub provider: Party,
@@ -27,14 +27,14 @@ pub struct Guarantee {
     pub instrument: u64,
 }
 
-#[derive(Drop)]
+#[derive(Clone, Copy)]
 pub struct GuaranteeList {
     pub items: [Guarantee; Deal::GUARANTEE_LIMIT],
     pub count: usize,
 }
 
 // A list after an addition, and what adding answers. The list stands first, which spares the code that is made a copy.
-#[derive(Drop)]
+#[derive(Clone, Copy)]
 pub struct AddedGuarantee {
     pub list: GuaranteeList,
     pub answer: Answer,

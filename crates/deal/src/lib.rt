@@ -1,5 +1,8 @@
 // A deal's record, and the operations that make one: opening it, adding collateral, adding a guarantee.
 // A record may come from anywhere and hold any numbers; `Deal::accepted` tells whether it is one that operations accept.
+
+#![tactic(auto)]
+
 pub mod answer;
 pub mod asset;
 pub mod checks;

@@ -7,7 +7,7 @@ use crate::ranges::LAST_STEP;
 use base::within;
 use tables::classes::{OTHER_ENTITY, RETAIL, SOVEREIGN};
 
-#[derive(Drop)]
+#[derive(Clone, Copy)]
 pub struct Party {
     pub class: u64,
     pub step: u64,

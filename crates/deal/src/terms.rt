@@ -19,7 +19,7 @@ const FIRST_EDITION: u64 = 1;
 
 const LAST_EDITION: u64 = 3;
 
-#[derive(Drop)]
+#[derive(Clone, Copy)]
 pub struct Terms {
     pub amount: u64,
     pub counterparty: Party,

@@ -1,6 +1,9 @@
 // The proved library for programs in other languages: answering a book, repairing one that came by mail, opening a deal, adding an item to
 // it, reporting it, and netting a set of positions. Numbers and slices only, and nothing is asked of the caller's numbers: whatever they are, the answer is a figure or
 // a refusal.
+
+#![tactic(auto)]
+
 ghost use Rattle.std.specs.Prelude.{◌≡◌, length};
 ghost use Rattle.book.specs.Book.{book_reply, results_after};
 ghost use Rattle.mail.specs.Reply.{buffer_after, numbers_after, repair_reply};

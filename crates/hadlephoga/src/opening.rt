@@ -12,7 +12,7 @@ use deal::fields::{TERMS_WIDTH, terms_in};
 use deal::terms::Terms;
 
 // The refusal or 0, and the deal; a record of zeros beside a refusal.
-#[derive(Drop)]
+#[derive(Clone, Copy)]
 struct Opened {
     refusal: u64,
     deal: Deal,

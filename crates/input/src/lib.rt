@@ -1,9 +1,12 @@
 // What standard input holds.
+
+#![tactic(auto)]
+
 ghost use Rattle.std.specs.Prelude.{◌≤◌, ◌≡◌, length};
 
 use libc::STDIN_FILENO;
 
-#[derive(Drop)]
+#[derive(Clone, Copy)]
 pub struct Input {
     // Whether nothing but the input's end, or the buffer's, ended the reading.
     pub complete: bool,

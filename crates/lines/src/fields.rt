@@ -10,7 +10,7 @@ use text::{LINE_FEED, TAB};
 // Of the longest lines, C, and D and S with the sovereign's step.
 pub const MOST_FIELDS: usize = COLLATERAL_WIDTH;
 
-#[derive(Drop)]
+#[derive(Clone, Copy)]
 pub struct Fields {
     pub read: bool,
     // In their order, and zeros behind them.

@@ -12,7 +12,7 @@ use deal::fields::{
 use deal::guarantee::Guarantee;
 use deal::terms::Terms;
 
-#[derive(Drop)]
+#[derive(Clone, Copy)]
 pub enum Line {
     DealLine(Terms),
     CollateralLine(Collateral),

@@ -10,7 +10,7 @@ const LAST_DIGIT: u64 = 57;
 
 const MOST_DIGITS: usize = 13;
 
-#[derive(Drop)]
+#[derive(Clone, Copy)]
 pub enum Number {
     // Its value and how many digits it has.
     Value(u64, usize),

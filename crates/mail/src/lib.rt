@@ -1,4 +1,7 @@
 // Repairing a book that came by mail (02: L14): a first pass measures what it becomes, a second one writes it.
+
+#![tactic(auto)]
+
 ghost use Rattle.mail.specs.Reply.{RepairOutcome, refused_reply};
 ghost use Rattle.std.specs.Prelude.{◌≡◌};
 
@@ -16,7 +19,7 @@ const BUFFER_TOO_SHORT: u64 = 20;
 
 const LIST_TOO_SHORT: u64 = 41;
 
-#[derive(Drop)]
+#[derive(Clone, Copy)]
 pub struct RepairReply {
     // The refusal, or 0.
     pub refusal: u64,

@@ -7,7 +7,7 @@ ghost use Rattle.mail.specs.Working.{BytePassed, FourBefore, Measured, Measuring
 use crate::place::{Place, SPACE, no_feed_in_four, past_byte, past_feed};
 use text::LINE_FEED;
 
-#[derive(Drop)]
+#[derive(Clone, Copy)]
 pub struct Sizes {
     // Bytes that are dropped.
     pub dropped: usize,
@@ -18,7 +18,7 @@ pub struct Sizes {
 }
 
 // What was found behind a place; its own line is not among the altered ones yet.
-#[derive(Drop)]
+#[derive(Clone, Copy)]
 struct Passed {
     place: Place,
     sizes: Sizes,

@@ -10,7 +10,7 @@ pub const SPACE: u8 = 32;
 
 const CARRIAGE_RETURN: u8 = 13;
 
-#[derive(Drop)]
+#[derive(Clone, Copy)]
 pub struct Place {
     pub at: usize,
     // Whether a space stands behind it.

@@ -16,7 +16,7 @@ use scaling::factor::TimeFactor;
 use signed::absolute;
 
 // What is netted by its number.
-#[derive(Drop)]
+#[derive(Clone, Copy)]
 pub enum Netted {
     Securities,
     Currencies,

@@ -15,7 +15,7 @@ pub const LENT: u64 = 1;
 
 pub const RECEIVED: u64 = 2;
 
-#[derive(Drop)]
+#[derive(Clone, Copy)]
 pub struct Position {
     // Lent or received.
     pub side: u64,

@@ -8,14 +8,14 @@ use crate::refusal::set_refusal;
 use crate::terms::SetTerms;
 use valuation::exposure::risk_weighted_amount;
 
-#[derive(Drop)]
+#[derive(Clone, Copy)]
 pub struct NettingSet {
     pub terms: SetTerms,
     pub positions: [Position; NettingSet::POSITION_LIMIT],
     pub count: usize,
 }
 
-#[derive(Drop)]
+#[derive(Clone, Copy)]
 pub struct NettingReply {
     // The refusal, or 0.
     pub refusal: u64,

@@ -13,7 +13,7 @@ use deal::terms::Terms;
 use scaling::factor::TimeFactor;
 use valuation::exposure::risk_weighted_amount;
 
-#[derive(Drop)]
+#[derive(Clone, Copy)]
 pub struct Amounts {
     // The exposure after collateral, E*.
     pub exposure: u64,

@@ -22,13 +22,13 @@ use tables::eligibility::eligible;
 use valuation::haircuts::combined_haircut;
 use valuation::protection::Valuation;
 
-#[derive(Drop)]
+#[derive(Clone, Copy)]
 pub struct CollateralReport {
     pub outcome: Outcome,
 }
 
 // What all items come to, in order of adding.
-#[derive(Drop)]
+#[derive(Clone, Copy)]
 pub struct CollateralValues {
     pub reports: [CollateralReport; Deal::COLLATERAL_LIMIT],
     pub total: u64,

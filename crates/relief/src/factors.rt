@@ -7,7 +7,7 @@ use deal::terms::Terms;
 use scaling::factor::TimeFactor;
 use scaling::period::{guarantee_period, holding_period};
 
-#[derive(Drop)]
+#[derive(Clone, Copy)]
 pub struct TimeFactors {
     // Of collateral and of the goods lent.
     pub deal: TimeFactor,

@@ -2,7 +2,7 @@
 ghost use Rattle.std.specs.Prelude.{◌≡◌};
 ghost use Rattle.relief.specs.Grounds.{ground_number};
 
-#[derive(Drop)]
+#[derive(Clone, Copy)]
 pub enum Ground {
     NotLawful,
     Related,

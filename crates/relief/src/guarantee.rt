@@ -23,7 +23,7 @@ use valuation::protection::Valuation;
 use valuation::restructuring::partially_recognised;
 
 // What is reported of it.
-#[derive(Drop)]
+#[derive(Clone, Copy)]
 pub struct GuaranteeReport {
     pub outcome: Outcome,
     // What it covers of the exposure after collateral.
@@ -31,7 +31,7 @@ pub struct GuaranteeReport {
 }
 
 // One guarantee's outcome, and what it covers with.
-#[derive(Drop)]
+#[derive(Clone, Copy)]
 pub struct ValuedGuarantee {
     pub outcome: Outcome,
     pub protection: Protection,

@@ -21,7 +21,7 @@ use scaling::factor::TimeFactor;
 use valuation::protection::Valuation;
 
 // In order of adding.
-#[derive(Drop)]
+#[derive(Clone, Copy)]
 pub struct GuaranteeValues {
     pub reports: [GuaranteeReport; Deal::GUARANTEE_LIMIT],
     pub protections: [Protection; Deal::GUARANTEE_LIMIT],

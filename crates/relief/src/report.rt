@@ -25,7 +25,7 @@ use deal::terms::Terms;
 use valuation::exposure::risk_weighted_amount;
 use valuation::protection::Valuation;
 
-#[derive(Drop)]
+#[derive(Clone, Copy)]
 pub struct Report {
     pub answer: Answer,
     // The exposure after collateral, E*.

@@ -1,4 +1,7 @@
 // From a book that came by mail to what crmrepair writes.
+
+#![tactic(auto)]
+
 ghost use Rattle.std.specs.Prelude.{◌++◌, ◌≡◌, drop, length};
 ghost use Rattle.mail.specs.Reply.{numbers_after};
 ghost use Rattle.repairing.specs.Repairing.{book_written, notice_written};
@@ -6,7 +9,7 @@ ghost use Rattle.repairing.specs.Repairing.{book_written, notice_written};
 use mail::repair_book;
 use result::list::write_list;
 
-#[derive(Drop)]
+#[derive(Clone, Copy)]
 pub struct Lengths {
     // Of the repaired book.
     pub book: usize,

@@ -1,4 +1,7 @@
 // From a book to the text of its result.
+
+#![tactic(auto)]
+
 ghost use Rattle.std.specs.Prelude.{◌++◌, ◌≡◌, drop, length};
 ghost use Rattle.book.specs.Book.{results_after};
 ghost use Rattle.response.specs.Response.{printed};

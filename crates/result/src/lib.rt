@@ -1,4 +1,7 @@
 // The text of a book's result, written into a buffer that the caller lends (01: The book).
+
+#![tactic(auto)]
+
 ghost use Rattle.std.specs.Prelude.{◌≡◌, ◌++◌, length, drop};
 ghost use Rattle.result.specs.Result.{written};
 

@@ -10,7 +10,7 @@ use crate::stored::{Stored, is_daily, over, stored_line, stored_whole};
 
 const WHOLE: u64 = 1_000_000;
 
-#[derive(Drop)]
+#[derive(Clone, Copy)]
 pub struct TimeFactor {
     pub period: u64,
     // The square-root-of-time factor: the whole scaled to the period, the square root of period / 10 in millionths, rounded up.

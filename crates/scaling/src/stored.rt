@@ -27,7 +27,7 @@ const FIGURES: [[u64; 3]; 15] = [
 ];
 
 // A line of the table: a haircut over 5, over 10 and over 20 business days. Only table haircuts have one.
-#[derive(Drop)]
+#[derive(Clone, Copy)]
 pub enum Stored {
     Figures(u64, u64, u64),
     Nothing,

@@ -1,4 +1,7 @@
 // Signed numbers: the absolute value, and rounding up.
+
+#![tactic(auto)]
+
 ghost use Rattle.std.specs.Prelude.{◌≡◌, ◌≤◌, nat_abs};
 ghost use Rattle.signed.specs.Signed.{ceiling};
 

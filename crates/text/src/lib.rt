@@ -1,4 +1,7 @@
 // A text's bytes, and the lines they make.
+
+#![tactic(auto)]
+
 ghost use Rattle.std.specs.Prelude.{◌≡◌, ◌+◌, ◌≤◌, drop, length};
 ghost use Rattle.text.specs.Text.{first_line, same_bytes, starts_with};
 ghost use Rattle.text.specs.NoFeeds.{no_feeds};

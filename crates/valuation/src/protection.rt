@@ -48,7 +48,7 @@ fn maturity_adjusted(value: u64, cover: u64, term: u64) -> u64
 }
 
 // What an item is worth, and what each step took of the amount that was sent. They add up to it.
-#[derive(Drop)]
+#[derive(Clone, Copy)]
 pub struct Valuation {
     pub value: u64,
     pub haircut_loss: u64,
