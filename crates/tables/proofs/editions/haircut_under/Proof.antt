@@ -4,20 +4,20 @@ use Rattle.tables.proofs.Versions.{of_2019, of_2023}
 use Rattle.tables.proofs.editions.haircut_under.Statement.{statement}
 use Rattle.tables.proofs.editions.haircut_under.Tie as tie
 
-is-2023-requires : tie.Need-is-2023-requires
+is-2023-requires : tie.Need-is_2023-requires
 is-2023-requires c κs = tt
 
-haircut-2023-requires : tie.Need-haircut-2023-requires
+haircut-2023-requires : tie.Need-haircut_2023-requires
 haircut-2023-requires c κs = tt
 
-returns : tie.Need-returns
-returns c = rw (of_2023 _ (told_true _ _ c.before.before.is-2023.ensures c.before.if1.true)) c.haircut-2023.ensures
+returns : tie.Need-returns-then-is_2023
+returns c = rw (of_2023 _ (told_true _ _ c.before.before.is_2023.ensures c.before.if-is_2023.true)) c.haircut_2023.ensures
 
 haircut-requires : tie.Need-haircut-requires
 haircut-requires c κs = tt
 
-returns-2 : tie.Need-returns-2
-returns-2 c = rw (of_2019 _ (told_false _ _ c.before.before.is-2023.ensures c.before.if1.false)) c.haircut.ensures
+returns-2 : tie.Need-returns
+returns-2 c = rw (of_2019 _ (told_false _ _ c.before.before.is_2023.ensures c.before.if-is_2023.false)) c.haircut.ensures
 
-pub haircut-under-spec : {M : Type 1} → statement M
-haircut-under-spec = tie.close (tie.spec is-2023-requires haircut-2023-requires returns haircut-requires returns-2)
+pub haircut_under_spec : {M : Type 1} → statement M
+haircut_under_spec = tie.close (tie.spec is-2023-requires haircut-2023-requires returns haircut-requires returns-2)

@@ -6,5 +6,5 @@ use Rattle.tables.proofs.editions.is_2023.Tie as tie
 returns : tie.Need-returns
 returns c = refl
 
-pub is-2023-spec : {M : Type 1} → statement M
-is-2023-spec = tie.close (tie.spec returns)
+pub is_2023_spec : {M : Type 1} → statement M
+is_2023_spec = tie.close (tie.spec returns)

@@ -12,14 +12,14 @@ eligible-requires c κs = search tests
 haircut-requires : tie.Need-haircut-requires
 haircut-requires c κs = search tests
 
-returns : tie.Need-returns
+returns : tie.Need-returns-then-eligible
 unfolding lent_haircut
 returns c =
-    c.haircut.ensures ∙ sym (if_true _ _ _ (sym c.before.before.eligible.ensures ∙ c.before.if1.true))
+    c.haircut.ensures ∙ sym (if_true _ _ _ (sym c.before.before.eligible.ensures ∙ c.before.if-eligible.true))
 
-returns-2 : tie.Need-returns-2
+returns-2 : tie.Need-returns
 unfolding lent_haircut
-returns-2 c = sym (if_false _ _ _ (sym c.before.eligible.ensures ∙ c.if1.false))
+returns-2 c = sym (if_false _ _ _ (sym c.before.eligible.ensures ∙ c.if-eligible.false))
 
-pub lent-haircut-spec : {M : Type 1} → statement M
-lent-haircut-spec = tie.close (tie.spec eligible-requires haircut-requires returns returns-2)
+pub lent_haircut_spec : {M : Type 1} → statement M
+lent_haircut_spec = tie.close (tie.spec eligible-requires haircut-requires returns returns-2)

@@ -5,28 +5,28 @@ use Rattle.tables.proofs.Floor.{floor_met, floor_not_met}
 use Rattle.tables.proofs.version_2023.counterparty_weight_2023.Statement.{statement}
 use Rattle.tables.proofs.version_2023.counterparty_weight_2023.Tie as tie
 
-own-weight-requires : tie.Need-own-weight-requires
+own-weight-requires : tie.Need-own_weight-own-requires
 own-weight-requires c κs = search tests
 
-floor-for-counterparty-requires : tie.Need-floor-for-counterparty-requires
+floor-for-counterparty-requires : tie.Need-floor_for_counterparty-requires
 floor-for-counterparty-requires c κs = tt
 
-at-least-sovereign-requires : tie.Need-at-least-sovereign-requires
+at-least-sovereign-requires : tie.Need-at_least_sovereign-requires
 at-least-sovereign-requires c κs = search tests
 
-returns : tie.Need-returns
+returns : tie.Need-returns-then-floor_for_counterparty
 unfolding counterparty_weight_2023
 returns c =
     let f = c.before.before in
-    floor_met _ _ _ _ _ _ f.floor-for-counterparty.ensures c.before.if1.true f.before.own-weight.ensures c.at-least-sovereign.ensures
+    floor_met _ _ _ _ _ _ f.floor_for_counterparty.ensures c.before.if-floor_for_counterparty.true f.before.own_weight-own.ensures c.at_least_sovereign.ensures
 
-returns-2 : tie.Need-returns-2
+returns-2 : tie.Need-returns
 unfolding counterparty_weight_2023
 returns-2 c =
     let f = c.before in
-    floor_not_met _ _ _ _ _ f.floor-for-counterparty.ensures c.if1.false f.before.own-weight.ensures
+    floor_not_met _ _ _ _ _ f.floor_for_counterparty.ensures c.if-floor_for_counterparty.false f.before.own_weight-own.ensures
 
-pub counterparty-weight-2023-spec : {M : Type 1} → statement M
-counterparty-weight-2023-spec =
+pub counterparty_weight_2023_spec : {M : Type 1} → statement M
+counterparty_weight_2023_spec =
     tie.close
     (tie.spec own-weight-requires floor-for-counterparty-requires at-least-sovereign-requires returns returns-2)

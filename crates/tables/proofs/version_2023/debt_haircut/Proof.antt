@@ -5,44 +5,44 @@ use Rattle.tables.proofs.Cells2023.{debt_cell}
 use Rattle.tables.proofs.version_2023.debt_haircut.Statement.{statement}
 use Rattle.tables.proofs.version_2023.debt_haircut.Tie as tie
 
-row-requires : tie.Need-row-requires
+row-requires : tie.Need-row-r-requires
 row-requires c κs = search tests
 
-band-requires : tie.Need-band-requires
+band-requires : tie.Need-band-b-requires
 band-requires c κs = search tests
 
-column-requires : tie.Need-column-requires
+column-requires : tie.Need-column-c-requires
 column-requires c κs = search tests
 
-mul-figure : tie.Need-overflow-mul-figure
+mul-figure : tie.Need-offset_bounds-r
 mul-figure c = search tests
 
-mul-figure-2 : tie.Need-overflow-mul-figure-2
+mul-figure-2 : tie.Need-offset_bounds-r-b
 mul-figure-2 c = search tests
 
-mul-figure-3 : tie.Need-overflow-mul-figure-3
+mul-figure-3 : tie.Need-offset_bounds-r-c
 mul-figure-3 c = search tests
 
-index-1-figure : tie.Need-bounds-1-figure
+index-1-figure : tie.Need-bounds-r
 index-1-figure c = search tests
 
-index-2-figure : tie.Need-bounds-2-figure
+index-2-figure : tie.Need-bounds-b
 index-2-figure c = search tests
 
-index-3-figure : tie.Need-bounds-3-figure
+index-3-figure : tie.Need-bounds-c
 index-3-figure c = search tests
 
-wide-haircut-requires : tie.Need-wide-haircut-requires
+wide-haircut-requires : tie.Need-wide_haircut-requires
 wide-haircut-requires c κs = search tests
 
 returns : tie.Need-returns
 returns c =
     let b = c.before.before in
     let a = b.before.before.before.args in
-    c.wide-haircut.ensures ∙ rw (b.before.before.row.ensures.0, b.before.band.ensures.0, b.column.ensures.0) (debt_cell a.goods a.step a.life)
+    c.wide_haircut.ensures ∙ rw (b.before.before.row-r.ensures.0, b.before.band-b.ensures.0, b.column-c.ensures.0) (debt_cell a.goods a.step a.life)
 
-pub debt-haircut-spec : {M : Type 1} → statement M
-debt-haircut-spec =
+pub debt_haircut_spec : {M : Type 1} → statement M
+debt_haircut_spec =
     tie.close
     (tie.spec
     row-requires

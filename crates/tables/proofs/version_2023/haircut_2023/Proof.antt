@@ -4,29 +4,29 @@ use Rattle.tables.specs.Version2023.{haircut_2023}
 use Rattle.tables.proofs.version_2023.haircut_2023.Statement.{statement}
 use Rattle.tables.proofs.version_2023.haircut_2023.Tie as tie
 
-returns : tie.Need-returns
+returns : tie.Need-returns-then-goods-eq-CASH
 unfolding haircut_2023
 returns c = search tests
 
-returns-2 : tie.Need-returns-2
+returns-2 : tie.Need-returns-then-goods-eq-MAIN_INDEX_EQUITY
 unfolding haircut_2023
 returns-2 c = search tests
 
-returns-3 : tie.Need-returns-3
+returns-3 : tie.Need-returns-then-goods-eq-GOLD
 unfolding haircut_2023
 returns-3 c = search tests
 
-returns-4 : tie.Need-returns-4
+returns-4 : tie.Need-returns-then-goods-eq-OTHER_LISTED_EQUITY
 unfolding haircut_2023
 returns-4 c = search tests
 
-debt-haircut-requires : tie.Need-debt-haircut-requires
+debt-haircut-requires : tie.Need-debt_haircut-requires
 debt-haircut-requires c κs = search tests
 
-returns-5 : tie.Need-returns-5
+returns-5 : tie.Need-returns
 unfolding haircut_2023
 returns-5 c = search tests
 
-pub haircut-2023-spec : {M : Type 1} → statement M
-haircut-2023-spec =
+pub haircut_2023_spec : {M : Type 1} → statement M
+haircut_2023_spec =
     tie.close (tie.spec returns returns-2 returns-3 returns-4 debt-haircut-requires returns-5)

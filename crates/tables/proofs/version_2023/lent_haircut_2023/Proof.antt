@@ -9,17 +9,17 @@ use Rattle.tables.proofs.version_2023.lent_haircut_2023.Tie as tie
 eligible-requires : tie.Need-eligible-requires
 eligible-requires c κs = search tests
 
-haircut-2023-requires : tie.Need-haircut-2023-requires
+haircut-2023-requires : tie.Need-haircut_2023-requires
 haircut-2023-requires c κs = search tests
 
-returns : tie.Need-returns
+returns : tie.Need-returns-then-eligible
 unfolding lent_haircut_2023
 returns c =
-    c.haircut-2023.ensures ∙ sym (if_true _ _ _ (sym c.before.before.eligible.ensures ∙ c.before.if1.true))
+    c.haircut_2023.ensures ∙ sym (if_true _ _ _ (sym c.before.before.eligible.ensures ∙ c.before.if-eligible.true))
 
-returns-2 : tie.Need-returns-2
+returns-2 : tie.Need-returns
 unfolding lent_haircut_2023
-returns-2 c = sym (if_false _ _ _ (sym c.before.eligible.ensures ∙ c.if1.false))
+returns-2 c = sym (if_false _ _ _ (sym c.before.eligible.ensures ∙ c.if-eligible.false))
 
-pub lent-haircut-2023-spec : {M : Type 1} → statement M
-lent-haircut-2023-spec = tie.close (tie.spec eligible-requires haircut-2023-requires returns returns-2)
+pub lent_haircut_2023_spec : {M : Type 1} → statement M
+lent_haircut_2023_spec = tie.close (tie.spec eligible-requires haircut-2023-requires returns returns-2)

@@ -5,16 +5,16 @@ use Rattle.tables.specs.Weights.{own_weight}
 use Rattle.tables.proofs.version_2023.own_weight.Statement.{statement}
 use Rattle.tables.proofs.version_2023.own_weight.Tie as tie
 
-returns : tie.Need-returns
+returns : tie.Need-returns-then-class-eq-RETAIL
 unfolding own_weight_2023 own_weight
 returns c = search tests
 
-table-weight-requires : tie.Need-table-weight-requires
+table-weight-requires : tie.Need-table_weight-requires
 table-weight-requires c κs = search tests
 
-returns-2 : tie.Need-returns-2
+returns-2 : tie.Need-returns
 unfolding own_weight_2023 own_weight
 returns-2 c = search tests
 
-pub own-weight-spec : {M : Type 1} → statement M
-own-weight-spec = tie.close (tie.spec returns table-weight-requires returns-2)
+pub own_weight_spec : {M : Type 1} → statement M
+own_weight_spec = tie.close (tie.spec returns table-weight-requires returns-2)

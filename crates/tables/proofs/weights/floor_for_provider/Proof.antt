@@ -2,11 +2,11 @@
 use Rattle.tables.proofs.weights.floor_for_provider.Statement.{statement}
 use Rattle.tables.proofs.weights.floor_for_provider.Tie as tie
 
-has-floor-requires : tie.Need-has-floor-requires
+has-floor-requires : tie.Need-has_floor-requires
 has-floor-requires c κs = tt
 
 returns : tie.Need-returns
-returns c = rw c.has-floor.ensures
+returns c = rw c.has_floor.ensures
 
-pub floor-for-provider-spec : {M : Type 1} → statement M
-floor-for-provider-spec = tie.close (tie.spec has-floor-requires returns)
+pub floor_for_provider_spec : {M : Type 1} → statement M
+floor_for_provider_spec = tie.close (tie.spec has-floor-requires returns)

@@ -8,5 +8,5 @@ returns : tie.Need-returns
 unfolding has_floor
 returns c = search tests
 
-pub has-floor-spec : {M : Type 1} → statement M
-has-floor-spec = tie.close (tie.spec returns)
+pub has_floor_spec : {M : Type 1} → statement M
+has_floor_spec = tie.close (tie.spec returns)

@@ -8,27 +8,27 @@ use Rattle.tables.specs.Weights.{table_weight}
 use Rattle.tables.proofs.weights.table_weight.Statement.{statement}
 use Rattle.tables.proofs.weights.table_weight.Tie as tie
 
-sub-weight : tie.Need-overflow-sub-weight
+sub-weight : tie.Need-overflow_sub-weight
 sub-weight c = search tests
 
-mul-weight : tie.Need-overflow-mul-weight
+mul-weight : tie.Need-offset_bounds-class
 mul-weight c = search tests
 
-index-1-weight : tie.Need-bounds-1-weight
+index-1-weight : tie.Need-bounds-class
 index-1-weight c = search tests
 
-index-2-weight : tie.Need-bounds-2-weight
+index-2-weight : tie.Need-bounds-step
 index-2-weight c = search tests
 
-wide-weight-requires : tie.Need-wide-weight-requires
+wide-weight-requires : tie.Need-wide_weight-requires
 wide-weight-requires c κs = search tests
 
 returns : tie.Need-returns
 unfolding table_weight
 returns c =
     let a = c.before.before.args in
-    c.wide-weight.ensures ∙ by_step_lem (a.class - 1) a.step (omega arith) (omega arith)
+    c.wide_weight.ensures ∙ by_step_lem (a.class - 1) a.step (omega arith) (omega arith)
 
-pub table-weight-spec : {M : Type 1} → statement M
-table-weight-spec =
+pub table_weight_spec : {M : Type 1} → statement M
+table_weight_spec =
     tie.close (tie.spec sub-weight mul-weight index-1-weight index-2-weight wide-weight-requires returns)
