@@ -8,40 +8,40 @@ use Rattle.text.proofs.Ends.{near_start, nearer_by}
 use Rattle.text.proofs.near_end.Statement.{statement}
 use Rattle.text.proofs.near_end.Tie as tie
 
-abbrev invariant-loop : tie.invariant-loop
+abbrev invariant-loop : tie.invariant-loop-at
 invariant-loop text start at₀ at = Near text start at
 
-abbrev decreases-loop : tie.decreases-loop
+abbrev decreases-loop : tie.decreases-loop-at
 decreases-loop text start at₀ at = length text - at
 
-loop-holds : tie.Need-loop-init invariant-loop decreases-loop
+loop-holds : tie.Need-loop-at-init invariant-loop decreases-loop
 loop-holds c = near_start _ _ c.before.requires
 
-sub-loop : tie.Need-overflow-sub-loop invariant-loop decreases-loop
-sub-loop c = c.loop.invariant.inside
+sub-loop : tie.Need-overflow_sub-text invariant-loop decreases-loop
+sub-loop c = c.loop-at.invariant.inside
 
-no-feed-in-eight-requires : tie.Need-no-feed-in-eight-requires invariant-loop decreases-loop
-no-feed-in-eight-requires c κs = omega (arith, c.before.loop.invariant.inside)
+no-feed-in-eight-requires : tie.Need-no_feed_in_eight-requires invariant-loop decreases-loop
+no-feed-in-eight-requires c κs = omega (arith, c.before.loop-at.invariant.inside)
 
-returns : tie.Need-returns invariant-loop decreases-loop
-returns c = c.before.before.before.loop.invariant
+returns : tie.Need-returns-then-not-no_feed_in_eight invariant-loop decreases-loop
+returns c = c.before.before.before.loop-at.invariant
 
-add_at : tie.Need-overflow-add-at invariant-loop decreases-loop
-add_at c = omega (arith, c.before.before.before.loop.invariant.inside, c.before.before.loop-test.true)
+add_at : tie.Need-overflow_add-at invariant-loop decreases-loop
+add_at c = omega (arith, c.before.before.before.loop-at.invariant.inside, c.before.before.loop-at-test.true)
 
-loop-less : tie.Need-loop-smaller invariant-loop decreases-loop
-loop-less c = omega (arith, c.before.before.before.loop.invariant.inside, c.before.before.loop-test.true)
+loop-less : tie.Need-loop-at-smaller invariant-loop decreases-loop
+loop-less c = omega (arith, c.before.before.before.loop-at.invariant.inside, c.before.before.loop-at-test.true)
 
-loop-again : tie.Need-loop-preserved invariant-loop decreases-loop
+loop-again : tie.Need-loop-at-preserved invariant-loop decreases-loop
 loop-again c =
     let l = c.before.before.before in
-    nearer_by _ _ l.loop.at l.loop.invariant 8 (omega (arith, l.loop.invariant.inside, c.before.before.loop-test.true)) (told_not_true _ _ c.before.no-feed-in-eight.ensures c.if1.false)
+    nearer_by _ _ l.loop-at.at l.loop-at.invariant 8 (omega (arith, l.loop-at.invariant.inside, c.before.before.loop-at-test.true)) (told_not_true _ _ c.before.no_feed_in_eight.ensures c.if-not-no_feed_in_eight.false)
 
-returns-2 : tie.Need-returns-2 invariant-loop decreases-loop
-returns-2 c = c.before.loop.invariant
+returns-2 : tie.Need-returns invariant-loop decreases-loop
+returns-2 c = c.before.loop-at.invariant
 
-pub near-end-spec : {M : Type 1} → statement M
-near-end-spec =
+pub near_end_spec : {M : Type 1} → statement M
+near_end_spec =
     tie.close
     (tie.spec
     invariant-loop

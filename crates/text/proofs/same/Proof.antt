@@ -6,13 +6,13 @@ use Rattle.text.proofs.Equal.{same_starts, other_length}
 use Rattle.text.proofs.same.Statement.{statement}
 use Rattle.text.proofs.same.Tie as tie
 
-returns : tie.Need-returns
+returns : tie.Need-returns-then-first-second
 returns c = sym (other_length _ _ (λ e. omega arith))
 
-starts-with-requires : tie.Need-starts-with-requires
+starts-with-requires : tie.Need-starts_with-requires
 starts-with-requires c κs = search tests
 
-returns-2 : tie.Need-returns-2
+returns-2 : tie.Need-returns
 returns-2 c = c.starts_with.ensures ∙ sym (same_starts _ _ (omega arith))
 
 pub same_spec : {M : Type 1} → statement M

@@ -17,10 +17,10 @@ record Holds (text prefix : List ℕ) (i : ℕ) : Type 0 where
   inside : i ≤ length prefix
   same : starts_with prefix text ≡ starts_with (drop i prefix) (drop i text)
 
-abbrev invariant-loop : tie.invariant-loop
+abbrev invariant-loop : tie.invariant-loop-i
 invariant-loop text prefix i₀ i = Holds text prefix i
 
-abbrev decreases-loop : tie.decreases-loop
+abbrev decreases-loop : tie.decreases-loop-i
 decreases-loop text prefix i₀ i = length prefix - i
 
 module _ (prefix text : List ℕ) (i : ℕ) where
@@ -37,42 +37,42 @@ module _ (prefix text : List ℕ) (i : ℕ) where
   unfolding starts_with
   ended p = rw (drop_of_length-le prefix p)
 
-loop-holds : tie.Need-loop-init invariant-loop decreases-loop
+loop-holds : tie.Need-loop-i-init invariant-loop decreases-loop
 loop-holds c = record { inside = omega arith; same = refl }
 
-returns : tie.Need-returns invariant-loop decreases-loop
-returns c = sym (c.before.before.loop.invariant.same ∙ short _ _ _ c.before.loop-test.true c.if1.true)
+returns : tie.Need-returns-then-i-text invariant-loop decreases-loop
+returns c = sym (c.before.before.loop-i.invariant.same ∙ short _ _ _ c.before.loop-i-test.true c.if-i-text.true)
 
-shared-slice-read-if2 : tie.Need-shared-slice-read-if2 invariant-loop decreases-loop
+shared-slice-read-if2 : tie.Need-bounds-text-i invariant-loop decreases-loop
 shared-slice-read-if2 c = search tests
 
-shared-slice-read-if2-2 : tie.Need-shared-slice-read-if2-2 invariant-loop decreases-loop
+shared-slice-read-if2-2 : tie.Need-bounds-prefix-i invariant-loop decreases-loop
 shared-slice-read-if2-2 c = search tests
 
-at : (c : tie.Else1 invariant-loop decreases-loop)
-    → let i = c.before.before.loop.i in
+at : (c : tie.Else-i-text invariant-loop decreases-loop)
+    → let i = c.before.before.loop-i.i in
     let text = c.before.before.before.args.text.now in
     let prefix = c.before.before.before.args.prefix.now in
     starts_with prefix text ≡ (eqb (get_or text i 0) (get_or prefix i 0) && starts_with (drop (i + 1) prefix) (drop (i + 1) text))
-at c = c.before.before.loop.invariant.same ∙ opened _ _ _ c.before.loop-test.true c.if1.false
+at c = c.before.before.loop-i.invariant.same ∙ opened _ _ _ c.before.loop-i-test.true c.if-i-text.false
 
-returns-2 : tie.Need-returns-2 invariant-loop decreases-loop
+returns-2 : tie.Need-returns-then-text-i invariant-loop decreases-loop
 returns-2 c = search (tests, joined, at c.before.before.before)
 
-add-i : tie.Need-overflow-add-i invariant-loop decreases-loop
+add-i : tie.Need-overflow_add-i invariant-loop decreases-loop
 add-i c = search tests
 
-loop-less : tie.Need-loop-smaller invariant-loop decreases-loop
+loop-less : tie.Need-loop-i-smaller invariant-loop decreases-loop
 loop-less c = omega arith
 
-loop-again : tie.Need-loop-preserved invariant-loop decreases-loop
+loop-again : tie.Need-loop-i-preserved invariant-loop decreases-loop
 loop-again c = record { inside = omega arith; same = search (tests, joined, at c.before.before.before) }
 
-returns-3 : tie.Need-returns-3 invariant-loop decreases-loop
-returns-3 c = sym (c.before.loop.invariant.same ∙ ended _ _ _ c.loop-test.false)
+returns-3 : tie.Need-returns invariant-loop decreases-loop
+returns-3 c = sym (c.before.loop-i.invariant.same ∙ ended _ _ _ c.loop-i-test.false)
 
-pub starts-with-spec : {M : Type 1} → statement M
-starts-with-spec =
+pub starts_with_spec : {M : Type 1} → statement M
+starts_with_spec =
     tie.close
     (tie.spec
     invariant-loop

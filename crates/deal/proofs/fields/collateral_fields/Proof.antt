@@ -7,5 +7,5 @@ use Rattle.deal.proofs.fields.collateral_fields.Tie as tie
 returns : tie.Need-returns
 returns c = refl
 
-pub collateral-fields-spec : {M : Type 1} → statement M
-collateral-fields-spec = tie.close (tie.spec returns)
+pub collateral_fields_spec : {M : Type 1} → statement M
+collateral_fields_spec = tie.close (tie.spec returns)

@@ -7,5 +7,5 @@ use Rattle.deal.proofs.fields.guarantee_fields.Tie as tie
 returns : tie.Need-returns
 returns c = refl
 
-pub guarantee-fields-spec : {M : Type 1} → statement M
-guarantee-fields-spec = tie.close (tie.spec returns)
+pub guarantee_fields_spec : {M : Type 1} → statement M
+guarantee_fields_spec = tie.close (tie.spec returns)

@@ -4,10 +4,10 @@ use Rattle.deal.proofs.fields.guarantee_under.Statement.{statement}
 use Rattle.deal.proofs.fields.guarantee_under.Tie as tie
 
 returns : tie.Need-returns
-returns c = rw c.before.before.before.before.before.before.party-in.ensures
+returns c = rw c.before.before.before.before.before.before.party_in.ensures
 
-pub guarantee-under-spec : {M : Type 1} → statement M
-guarantee-under-spec =
+pub guarantee_under_spec : {M : Type 1} → statement M
+guarantee_under_spec =
     tie.close
     (tie.spec
     (λ c. search tests)

@@ -6,7 +6,7 @@ use Rattle.deal.proofs.fields.swap_sent.Statement.{statement}
 use Rattle.deal.proofs.fields.swap_sent.Tie as tie
 
 returns : tie.Need-returns
-returns c = c.as-swap.ensures ∙ ap (as_swap _) c.before.before.guarantee-sent.ensures
+returns c = c.as_swap.ensures ∙ ap (as_swap _) c.before.before.guarantee_sent-sent.ensures
 
-pub swap-sent-spec : {M : Type 1} → statement M
-swap-sent-spec = tie.close (tie.spec (λ c κs. search tests) (λ c. search tests) (λ c κs. tt) returns)
+pub swap_sent_spec : {M : Type 1} → statement M
+swap_sent_spec = tie.close (tie.spec (λ c κs. search tests) (λ c. search tests) (λ c κs. tt) returns)

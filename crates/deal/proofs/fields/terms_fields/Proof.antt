@@ -7,5 +7,5 @@ use Rattle.deal.proofs.fields.terms_fields.Tie as tie
 returns : tie.Need-returns
 returns c = refl
 
-pub terms-fields-spec : {M : Type 1} → statement M
-terms-fields-spec = tie.close (tie.spec returns)
+pub terms_fields_spec : {M : Type 1} → statement M
+terms_fields_spec = tie.close (tie.spec returns)

@@ -4,13 +4,13 @@ use Rattle.base.specs.Choice.{if◌then◌else◌}
 use Rattle.deal.proofs.party.highest_step.Statement.{statement}
 use Rattle.deal.proofs.party.highest_step.Tie as tie
 
-returns : tie.Need-returns
+returns : tie.Need-returns-then-zero
 unfolding if◌then◌else◌
 returns c = search tests
 
-returns-2 : tie.Need-returns-2
+returns-2 : tie.Need-returns
 unfolding if◌then◌else◌
 returns-2 c = search tests
 
-pub highest-step-spec : {M : Type 1} → statement M
-highest-step-spec = tie.close (tie.spec returns returns-2)
+pub highest_step_spec : {M : Type 1} → statement M
+highest_step_spec = tie.close (tie.spec returns returns-2)

@@ -9,5 +9,5 @@ within-requires c κs = tt
 returns : tie.Need-returns
 returns c = c.within.ensures
 
-pub days-allowed-spec : {M : Type 1} → statement M
-days-allowed-spec = tie.close (tie.spec within-requires returns)
+pub days_allowed_spec : {M : Type 1} → statement M
+days_allowed_spec = tie.close (tie.spec within-requires returns)

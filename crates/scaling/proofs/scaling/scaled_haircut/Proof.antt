@@ -28,58 +28,58 @@ down target low width h wide enough =
     let le : low + width / 2 ≤ low + (width - width / 2) = omega arith in
     (h.0, (le_trans enough (larger le), (omega arith, omega arith)))
 
-abbrev invariant-loop : tie.invariant-loop
+abbrev invariant-loop : tie.invariant-loop-width
 invariant-loop haircut period target low₀ width₀ low width = Holds target low width
 
-abbrev decreases-loop : tie.decreases-loop
+abbrev decreases-loop : tie.decreases-loop-width
 decreases-loop haircut period target low₀ width₀ low width = width
 
-mul-target : tie.Need-overflow-mul-target invariant-loop decreases-loop
+mul-target : tie.Need-overflow_mul-target invariant-loop decreases-loop
 mul-target c = omega (arith, mul-le-mul c.requires.0 c.requires.0)
 
-mul-target-2 : tie.Need-overflow-mul-target-2 invariant-loop decreases-loop
+mul-target-2 : tie.Need-overflow_mul-target-2 invariant-loop decreases-loop
 mul-target-2 c = omega (arith, mul-le-mul (mul-le-mul c.requires.0 c.requires.0) c.requires.1.0)
 
-returns : tie.Need-returns invariant-loop decreases-loop
+returns : tie.Need-returns-then-target-eq0 invariant-loop decreases-loop
 returns c =
     let a = c.before.args in
     scaled_means a.haircut a.period (omega (arith, scaled_le a.haircut a.period {b = 0} (omega arith)))
 
-loop-holds : tie.Need-loop-init invariant-loop decreases-loop
+loop-holds : tie.Need-loop-width-init invariant-loop decreases-loop
 loop-holds c = omega (arith, mul-le-mul (mul-le-mul c.before.requires.0 c.before.requires.0) c.before.requires.1.0)
 
-add-middle : tie.Need-overflow-add-middle invariant-loop decreases-loop
+add-middle : tie.Need-overflow_add-middle invariant-loop decreases-loop
 add-middle c = omega arith
 
-mul-if2 : tie.Need-overflow-mul-if2 invariant-loop decreases-loop
+mul-if2 : tie.Need-overflow_mul-middle invariant-loop decreases-loop
 mul-if2 c = omega arith
 
-mul-if2-2 : tie.Need-overflow-mul-if2-2 invariant-loop decreases-loop
+mul-if2-2 : tie.Need-overflow_mul-middle-in-loop-width invariant-loop decreases-loop
 mul-if2-2 c =
-    let l = c.before.loop in
+    let l = c.before.loop-width in
     let le : l.low + l.width / 2 ≤ 16777216 = omega arith in
     omega (arith, larger le)
 
-sub-width : tie.Need-overflow-sub-width invariant-loop decreases-loop
+sub-width : tie.Need-overflow_sub-width invariant-loop decreases-loop
 sub-width c = omega arith
 
-loop-less : tie.Need-loop-smaller invariant-loop decreases-loop
+loop-less : tie.Need-loop-width-smaller invariant-loop decreases-loop
 loop-less c = omega arith
 
-loop-again : tie.Need-loop-preserved invariant-loop decreases-loop
+loop-again : tie.Need-loop-width-preserved invariant-loop decreases-loop
 loop-again c =
-    let l = c.before.before.loop in
+    let l = c.before.before.loop-width in
     ⊎_elim
     (λ w. rw w.1 (up _ l.low l.width l.invariant (omega arith) (omega arith)))
     (λ w. rw w.1 (down _ l.low l.width l.invariant (omega arith) (omega arith)))
-    c.if2.branch
+    c.if-middle-target.branch
 
-add-result : tie.Need-overflow-add-result invariant-loop decreases-loop
+add-result : tie.Need-overflow_add-result invariant-loop decreases-loop
 add-result c = omega arith
 
-returns-2 : tie.Need-returns-2 invariant-loop decreases-loop
+returns-2 : tie.Need-returns invariant-loop decreases-loop
 returns-2 c =
-    let l = c.before.loop in
+    let l = c.before.loop-width in
     let e : l.width ≡ 1 = omega arith in
     let a = c.before.before.before.args in
     scaled_means a.haircut a.period (scaled_by_step a.haircut a.period l.low l.invariant.0 (rw e at l.invariant.1.0))
@@ -88,8 +88,8 @@ returns-2 c =
 no-root-for-daily : (s : tie.Start invariant-loop decreases-loop) → is_daily s.args.period ≡ false
 no-root-for-daily s = s.requires.1.1
 
-pub scaled-haircut-spec : {M : Type 1} → statement M
-scaled-haircut-spec =
+pub scaled_haircut_spec : {M : Type 1} → statement M
+scaled_haircut_spec =
     tie.close
     (tie.spec
     invariant-loop

@@ -10,5 +10,5 @@ returns : tie.Need-returns
 unfolding scaled least between if◌then◌else◌
 returns c = refl
 
-pub stored-figures-spec : {M : Type 1} → statement M
-stored-figures-spec = tie.close (tie.spec returns)
+pub stored_figures_spec : {M : Type 1} → statement M
+stored_figures_spec = tie.close (tie.spec returns)

@@ -15,5 +15,5 @@ returns : tie.Need-returns
 unfolding scaled least between if◌then◌else◌
 returns c = c.over.ensures ∙ over_right 1000000 _ c.before.requires refl refl refl
 
-pub stored-whole-spec : {M : Type 1} → statement M
-stored-whole-spec = tie.close (tie.spec over-requires returns)
+pub stored_whole_spec : {M : Type 1} → statement M
+stored_whole_spec = tie.close (tie.spec over-requires returns)

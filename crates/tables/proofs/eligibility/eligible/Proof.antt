@@ -18,67 +18,67 @@ other k s l a b c d e = simp (ne_eqb k 1 a, ne_eqb k 2 b, ne_eqb k 3 c, ne_eqb k
 
 returns : tie.Need-returns-in-1-to-4
 unfolding eligible if◌then◌else◌
-returns c = rw c.before.before.in_default-1.keys2 (sym (inside 1 4 _ (omega arith) (omega arith)))
+returns c = rw c.in-2.is (sym (inside 1 4 _ (omega arith) (omega arith)))
 
 returns-2 : tie.Need-returns-in_default-step
 unfolding eligible if◌then◌else◌
-returns-2 c = rw c.before.in_default-1.keys2 (sym (under 1 4 _ (omega arith)))
+returns-2 c = rw c.in-2.is (sym (under 1 4 _ (omega arith)))
 
 returns-3 : tie.Need-returns-in_default-step-4
 unfolding eligible if◌then◌else◌
-returns-3 c = rw c.before.before.in_default-1.keys2 (sym (over 1 4 _ (omega arith) (omega arith)))
+returns-3 c = rw c.in-2.is (sym (over 1 4 _ (omega arith) (omega arith)))
 
 returns-4 : tie.Need-returns-in-1-to-3
 unfolding eligible if◌then◌else◌
 returns-4 c =
-    let e = sym (inside 1 3 c.before.before.before.args.step (omega arith) (omega arith)) in
-    ⊎_elim (λ k. rw k e) (λ k. rw k e) c.before.before.in_default-1.keys3
+    let e = sym (inside 1 3 c.args.step (omega arith) (omega arith)) in
+    ⊎_elim (λ k. rw k e) (λ k. rw k e) c.in-3.is
 
 returns-5 : tie.Need-returns-in_default-step-2
 unfolding eligible if◌then◌else◌
 returns-5 c =
-    let e = sym (under 1 3 c.before.before.args.step (omega arith)) in
-    ⊎_elim (λ k. rw k e) (λ k. rw k e) c.before.in_default-1.keys3
+    let e = sym (under 1 3 c.args.step (omega arith)) in
+    ⊎_elim (λ k. rw k e) (λ k. rw k e) c.in-3.is
 
 returns-6 : tie.Need-returns-in_default-step-2-2
 unfolding eligible if◌then◌else◌
 returns-6 c =
-    let e = sym (over 1 3 c.before.before.before.args.step (omega arith) (omega arith)) in
-    ⊎_elim (λ k. rw k e) (λ k. rw k e) c.before.before.in_default-1.keys3
+    let e = sym (over 1 3 c.args.step (omega arith) (omega arith)) in
+    ⊎_elim (λ k. rw k e) (λ k. rw k e) c.in-3.is
 
 returns-7 : tie.Need-returns-in-0
 unfolding eligible bank_debt_eligible if◌then◌else◌
-returns-7 c = rw (c.before.in_default-1.keys4, c.in_default-1.keys1)
+returns-7 c = rw (c.in-4.is, c.in-0.is)
 
 returns-8 : tie.Need-returns-in-1-to-3-step
 unfolding eligible bank_debt_eligible if◌then◌else◌
 returns-8 c =
-    rw c.before.before.in_default-1.keys4 (simp (ne_eqb _ 0 c.before.in_default-1.rest.1) (sym (inside 1 3 _ (omega arith) (omega arith))))
+    rw c.in-4.is (simp (ne_eqb _ 0 c.in-1-to-3-step.in_default-own.rest.1) (sym (inside 1 3 _ (omega arith) (omega arith))))
 
 returns-9 : tie.Need-returns-in_default-step-3
 unfolding eligible bank_debt_eligible if◌then◌else◌
 returns-9 c =
-    rw c.before.before.in_default-1.keys4 (simp (ne_eqb _ 0 c.before.in_default-1.rest.1) (sym (over 1 3 _ (omega arith) (omega arith))))
+    rw c.in-4.is (simp (ne_eqb _ 0 c.in_default-step-3.in_default-own.rest.1) (sym (over 1 3 _ (omega arith) (omega arith))))
 
 returns-10 : tie.Need-returns-in_default
 returns-10 c =
-    let r = c.before.in_default-1.rest in
+    let r = c.in_default.in_default-own.rest in
     sym
     (other _ _ _ r.0.0.0.1 r.0.0.1 (λ e. r.0.1 (inl e)) r.1 (λ e. r.0.1 (inr e)) ∙ equity_under _ (omega arith))
 
 returns-11 : tie.Need-returns-in_default-2
 returns-11 c =
-    let r = c.before.before.in_default-1.rest in
+    let r = c.in_default.in_default-own.rest in
     sym
     (other _ _ _ r.0.0.0.1 r.0.0.1 (λ e. r.0.1 (inl e)) r.1 (λ e. r.0.1 (inr e)) ∙ equity_over _ (omega arith))
 
 returns-12 : tie.Need-returns-in-1
 unfolding eligible if◌then◌else◌
-returns-12 c = rw c.in_default-1.keys1
+returns-12 c = rw c.in-1.in-1-own.keys1
 
 returns-13 : tie.Need-returns-in-1-2
 returns-13 c =
-    let r = c.before.before.in_default-1.rest in
+    let r = c.in-1.in_default-own.rest in
     sym
     (other _ _ _ r.0.0.0.1 r.0.0.1 (λ e. r.0.1 (inl e)) r.1 (λ e. r.0.1 (inr e)) ∙ equity_inside _ (omega arith) (omega arith))
 

@@ -8,5 +8,5 @@ number-requires c κs = tt
 returns : tie.Need-returns
 returns c = rw c.number.ensures
 
-pub is-accepted-spec : {M : Type 1} → statement M
-is-accepted-spec = tie.close (tie.spec number-requires returns)
+pub is_accepted_spec : {M : Type 1} → statement M
+is_accepted_spec = tie.close (tie.spec number-requires returns)

@@ -10,5 +10,5 @@ returns : tie.Need-returns
 unfolding accepted
 returns c = c.allowed.ensures
 
-pub accepted-spec : {M : Type 1} → statement M
-accepted-spec = tie.close (tie.spec allowed-requires returns)
+pub accepted_spec : {M : Type 1} → statement M
+accepted_spec = tie.close (tie.spec allowed-requires returns)

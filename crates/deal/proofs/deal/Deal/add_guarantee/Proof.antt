@@ -11,21 +11,21 @@ use Rattle.deal.proofs.deal.Deal.add_guarantee.Tie as tie
 allowed-requires : tie.Need-allowed-requires
 allowed-requires c κs = tt
 
-returns : tie.Need-returns
+returns : tie.Need-returns-then-not-allowed
 unfolding add_guarantee_refusal add_guarantee_tests answer_number
 returns c =
-    let e = met_first 40 _ _ (told_not c.before.allowed.ensures c.if1.true) in
+    let e = met_first 40 _ _ (told_not c.before.allowed.ensures c.if-not-allowed.true) in
     (sym e, sym (guarantee_refused _ _ (rw e refl)))
 
-add-requires : tie.Need-add-requires
+add-requires : tie.Need-add-added-requires
 add-requires c κs = tt
 
-returns-2 : tie.Need-returns-2
+returns-2 : tie.Need-returns
 returns-2 c =
     let else = c.before.before.before in
-    let h = told_not_true _ _ else.before.allowed.ensures else.if1.false in
-    let a = c.before.add.ensures in
+    let h = told_not_true _ _ else.before.allowed.ensures else.if-not-allowed.false in
+    let a = c.before.add-added.ensures in
     (a.1 ∙ sym (guarantee_by_list _ _ h), rw a.0 (sym (guarantee_with _ _ h)))
 
-pub add-guarantee-spec : {M : Type 1} → statement M
-add-guarantee-spec = tie.close (tie.spec allowed-requires returns add-requires returns-2)
+pub add_guarantee_spec : {M : Type 1} → statement M
+add_guarantee_spec = tie.close (tie.spec allowed-requires returns add-requires returns-2)

@@ -3,7 +3,7 @@ use Rattle.deal.proofs.deal.Deal.add_swap.Statement.{statement}
 use Rattle.deal.proofs.deal.Deal.add_swap.Tie as tie
 
 returns : tie.Need-returns
-returns c = rw c.before.as-swap.ensures at c.add-guarantee.ensures
+returns c = rw c.before.as_swap.ensures at c.add_guarantee.ensures
 
-pub add-swap-spec : {M : Type 1} → statement M
-add-swap-spec = tie.close (tie.spec (λ c κs. tt) (λ c κs. tt) returns)
+pub add_swap_spec : {M : Type 1} → statement M
+add_swap_spec = tie.close (tie.spec (λ c κs. tt) (λ c κs. tt) returns)

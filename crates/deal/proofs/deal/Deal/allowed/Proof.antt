@@ -5,10 +5,10 @@ use Rattle.deal.proofs.Answers.{agreed}
 use Rattle.deal.proofs.deal.Deal.allowed.Statement.{statement}
 use Rattle.deal.proofs.deal.Deal.allowed.Tie as tie
 
-check-requires : tie.Need-check-requires
+check-requires : tie.Need-check-answer-requires
 check-requires c κs = tt
 
-is-accepted-requires : tie.Need-is-accepted-requires
+is-accepted-requires : tie.Need-is_accepted-requires
 is-accepted-requires c κs = tt
 
 allowed-requires : tie.Need-allowed-requires
@@ -21,9 +21,9 @@ returns : tie.Need-returns
 unfolding record_allowed
 returns c =
     let a = c.before.before in
-    and_same _ _ _ _ (and_same _ _ _ _ (agreed a.is-accepted.ensures a.before.check.ensures) c.before.allowed.ensures) c.allowed2.ensures
+    and_same _ _ _ _ (and_same _ _ _ _ (agreed a.is_accepted.ensures a.before.check-answer.ensures) c.before.allowed.ensures) c.allowed-2.ensures
 
-pub allowed-spec : {M : Type 1} → statement M
-allowed-spec =
+pub allowed_spec : {M : Type 1} → statement M
+allowed_spec =
     tie.close
     (tie.spec check-requires is-accepted-requires allowed-requires allowed-requires-2 returns)

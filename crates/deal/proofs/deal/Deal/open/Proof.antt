@@ -7,29 +7,29 @@ use Rattle.deal.proofs.Answers.{agreed}
 use Rattle.deal.proofs.deal.Deal.open.Statement.{statement}
 use Rattle.deal.proofs.deal.Deal.open.Tie as tie
 
-check-requires : tie.Need-check-requires
+check-requires : tie.Need-check-answer-requires
 check-requires c κs = tt
 
-is-accepted-requires : tie.Need-is-accepted-requires
+is-accepted-requires : tie.Need-is_accepted-requires
 is-accepted-requires c κs = tt
 
-without-protection-requires : tie.Need-without-protection-requires
+without-protection-requires : tie.Need-without_protection-deal-requires
 without-protection-requires c κs = tt
 
-without-protection-requires-2 : tie.Need-without-protection-requires-2
+without-protection-requires-2 : tie.Need-without_protection-deal-requires-2
 without-protection-requires-2 c κs = tt
 
-returns : tie.Need-returns
+returns : tie.Need-returns-then-not-is_accepted
 unfolding opened_deal
 returns c =
     let a = c.before.before in
-    (a.before.check.ensures, c.without-protection.ensures ∙ sym (if_false _ _ _ (told_not_false _ _ (agreed a.is-accepted.ensures a.before.check.ensures) c.before.if1.true)))
+    (a.before.check-answer.ensures, c.without_protection-deal.ensures ∙ sym (if_false _ _ _ (told_not_false _ _ (agreed a.is_accepted.ensures a.before.check-answer.ensures) c.before.if-not-is_accepted.true)))
 
-returns-2 : tie.Need-returns-2
+returns-2 : tie.Need-returns
 unfolding opened_deal
 returns-2 c =
     let a = c.before.before in
-    (a.before.check.ensures, c.without-protection2.ensures ∙ sym (if_true _ _ _ (told_not_true _ _ (agreed a.is-accepted.ensures a.before.check.ensures) c.before.if1.false)))
+    (a.before.check-answer.ensures, c.without_protection-deal-2.ensures ∙ sym (if_true _ _ _ (told_not_true _ _ (agreed a.is_accepted.ensures a.before.check-answer.ensures) c.before.if-not-is_accepted.false)))
 
 pub open_spec : {M : Type 1} → statement M
 open_spec =

@@ -3,7 +3,7 @@ use Rattle.deal.proofs.guarantee.Guarantee.as_swap.Statement.{statement}
 use Rattle.deal.proofs.guarantee.Guarantee.as_swap.Tie as tie
 
 returns : tie.Need-returns
-returns c = rw c.swap-with.ensures
+returns c = rw c.swap_with.ensures
 
-pub as-swap-spec : {M : Type 1} → statement M
-as-swap-spec = tie.close (tie.spec (λ c κs. tt) returns)
+pub as_swap_spec : {M : Type 1} → statement M
+as_swap_spec = tie.close (tie.spec (λ c κs. tt) returns)

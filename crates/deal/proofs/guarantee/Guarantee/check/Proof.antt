@@ -17,16 +17,16 @@ returns c =
     let x = days.before.before.before.args.self in
     c.answer.ensures
     ∙ same_checks {f = leb x.residual x.original}
-    c.before.before.before.before.before.amount-allowed.ensures
-    c.before.before.before.before.provider-known.ensures
-    c.before.before.before.steps-allowed.ensures
-    c.before.before.currency-allowed.ensures
-    (and_same _ _ _ _ days.before.days-allowed.ensures days.days-allowed2.ensures)
+    c.before.before.before.before.before.amount_allowed.ensures
+    c.before.before.before.before.provider_known.ensures
+    c.before.before.before.steps_allowed.ensures
+    c.before.before.currency_allowed.ensures
+    (and_same _ _ _ _ days.before.days_allowed.ensures days.days_allowed-2.ensures)
     refl
-    (and_same _ _ _ _ (and_same _ _ _ _ (and_same _ _ _ _ lawful.condition-allowed.ensures rated.before.condition-allowed2.ensures) rated.condition-allowed3.ensures) i.instrument-allowed.ensures)
+    (and_same _ _ _ _ (and_same _ _ _ _ (and_same _ _ _ _ lawful.condition_allowed.ensures rated.before.condition_allowed-2.ensures) rated.condition_allowed-3.ensures) i.instrument_allowed.ensures)
 
-pub check-spec : {M : Type 1} → statement M
-check-spec =
+pub check_spec : {M : Type 1} → statement M
+check_spec =
     tie.close
     (tie.spec
     (λ c κs. tt)

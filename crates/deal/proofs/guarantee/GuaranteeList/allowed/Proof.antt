@@ -11,60 +11,60 @@ use Rattle.deal.proofs.Lists.{PassedTo, all_passed, none_passed, one_passed, one
 use Rattle.deal.proofs.guarantee.GuaranteeList.allowed.Statement.{statement}
 use Rattle.deal.proofs.guarantee.GuaranteeList.allowed.Tie as tie
 
-abbrev invariant-loop : tie.invariant-loop
+abbrev invariant-loop : tie.invariant-loop-i
 invariant-loop items count i₀ i = PassedTo guarantee_refusal items count i
 
-abbrev decreases-loop : tie.decreases-loop
+abbrev decreases-loop : tie.decreases-loop-i
 decreases-loop items count i₀ i = count - i
 
-returns : tie.Need-returns invariant-loop decreases-loop
+returns : tie.Need-returns-then-count-gt-GUARANTEE_LIMIT invariant-loop decreases-loop
 unfolding guarantee_list_allowed
-returns c = sym (too_many guarantee_refusal _ _ c.if1.true)
+returns c = sym (too_many guarantee_refusal _ _ c.if-count-gt-GUARANTEE_LIMIT.true)
 
-loop-holds : tie.Need-loop-init invariant-loop decreases-loop
-loop-holds c = let l = c.before.before.args.self in none_passed guarantee_refusal l.items l.count
+loop-holds : tie.Need-loop-i-init invariant-loop decreases-loop
+loop-holds c = let l = c.before.before.args.self in none_passed guarantee_refusal l.items-1 l.count
 
-mul-item : tie.Need-overflow-mul-item invariant-loop decreases-loop
+mul-item : tie.Need-offset_bounds-items-i invariant-loop decreases-loop
 mul-item c = search tests
 
-array-copy-out-item : tie.Need-array-copy-out-item invariant-loop decreases-loop
+array-copy-out-item : tie.Need-bounds-items-i invariant-loop decreases-loop
 array-copy-out-item c = search tests
 
-check-requires : tie.Need-check-requires invariant-loop decreases-loop
+check-requires : tie.Need-check-answer-requires invariant-loop decreases-loop
 check-requires c κs = tt
 
-is-accepted-requires : tie.Need-is-accepted-requires invariant-loop decreases-loop
+is-accepted-requires : tie.Need-is_accepted-requires invariant-loop decreases-loop
 is-accepted-requires c κs = tt
 
-long : (c : tie.Start invariant-loop decreases-loop) → length c.args.self.items ≡ 16
-long c = search (unmapped, c.well-formed)
+long : (c : tie.Start invariant-loop decreases-loop) → length c.args.self.items-1 ≡ 16
+long c = search (unmapped, c.well_formed)
 
-returns-2 : tie.Need-returns-2 invariant-loop decreases-loop
+returns-2 : tie.Need-returns-then-not-is_accepted invariant-loop decreases-loop
 unfolding guarantee_list_allowed
 returns-2 c =
     let i = c.before.before.before.before.before in
     let l = long i.before.before.before in
-    sym (one_refused guarantee_refusal _ _ i.loop.i _ i.before.if1.false c.before.before.before.before.loop-test.true (omega (arith, l)) (told_not_false _ _ (agreed c.before.is-accepted.ensures c.before.before.check.ensures) c.if2.true))
+    sym (one_refused guarantee_refusal _ _ i.loop-i.i _ i.before.if-count-gt-GUARANTEE_LIMIT.false c.before.before.before.before.loop-i-test.true (omega (arith, l)) (told_not_false _ _ (agreed c.before.is_accepted.ensures c.before.before.check-answer.ensures) c.if-not-is_accepted.true))
 
-add-i : tie.Need-overflow-add-i invariant-loop decreases-loop
+add-i : tie.Need-overflow_add-i invariant-loop decreases-loop
 add-i c = search tests
 
-loop-less : tie.Need-loop-smaller invariant-loop decreases-loop
+loop-less : tie.Need-loop-i-smaller invariant-loop decreases-loop
 loop-less c = search tests
 
-loop-again : tie.Need-loop-preserved invariant-loop decreases-loop
+loop-again : tie.Need-loop-i-preserved invariant-loop decreases-loop
 loop-again c =
     let i = c.before.before.before.before.before in
-    one_passed guarantee_refusal _ _ i.loop.i _ c.before.before.before.before.loop-test.true i.loop.invariant (told_not_true _ _ (agreed c.before.is-accepted.ensures c.before.before.check.ensures) c.if2.false)
+    one_passed guarantee_refusal _ _ i.loop-i.i _ c.before.before.before.before.loop-i-test.true i.loop-i.invariant (told_not_true _ _ (agreed c.before.is_accepted.ensures c.before.before.check-answer.ensures) c.if-not-is_accepted.false)
 
-returns-3 : tie.Need-returns-3 invariant-loop decreases-loop
+returns-3 : tie.Need-returns invariant-loop decreases-loop
 unfolding guarantee_list_allowed
 returns-3 c =
     let i = c.before in
-    sym (all_passed guarantee_refusal _ _ i.loop.i i.before.if1.false (omega arith) i.loop.invariant)
+    sym (all_passed guarantee_refusal _ _ i.loop-i.i i.before.if-count-gt-GUARANTEE_LIMIT.false (omega arith) i.loop-i.invariant)
 
-pub allowed-spec : {M : Type 1} → statement M
-allowed-spec =
+pub allowed_spec : {M : Type 1} → statement M
+allowed_spec =
     tie.close
     (tie.spec
     invariant-loop

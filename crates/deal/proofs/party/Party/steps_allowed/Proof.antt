@@ -4,15 +4,15 @@ use Rattle.base.proofs.Tests.{and_same}
 use Rattle.deal.proofs.party.Party.steps_allowed.Statement.{statement}
 use Rattle.deal.proofs.party.Party.steps_allowed.Tie as tie
 
-step-allowed-requires : tie.Need-step-allowed-requires
+step-allowed-requires : tie.Need-step_allowed-requires
 step-allowed-requires c κs = tt
 
-sovereign-step-allowed-requires : tie.Need-sovereign-step-allowed-requires
+sovereign-step-allowed-requires : tie.Need-sovereign_step_allowed-requires
 sovereign-step-allowed-requires c κs = tt
 
 returns : tie.Need-returns
 unfolding party_steps_allowed
 returns c = search and_same
 
-pub steps-allowed-spec : {M : Type 1} → statement M
-steps-allowed-spec = tie.close (tie.spec step-allowed-requires sovereign-step-allowed-requires returns)
+pub steps_allowed_spec : {M : Type 1} → statement M
+steps_allowed_spec = tie.close (tie.spec step-allowed-requires sovereign-step-allowed-requires returns)

@@ -4,8 +4,8 @@ use Rattle.base.proofs.Tests.{tests, told}
 use Rattle.scaling.proofs.factor.TimeFactor.of_period.Statement.{statement}
 use Rattle.scaling.proofs.factor.TimeFactor.of_period.Tie as tie
 
-pub of-period-spec : {M : Type 1} → statement M
-of-period-spec =
+pub of_period_spec : {M : Type 1} → statement M
+of_period_spec =
     tie.close
     (tie.spec
     (λ c κs. search (tests, told))

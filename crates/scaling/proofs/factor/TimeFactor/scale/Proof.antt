@@ -6,48 +6,48 @@ use Rattle.scaling.proofs.StoredFigures.{has_figures, taken}
 use Rattle.scaling.proofs.factor.TimeFactor.scale.Statement.{statement}
 use Rattle.scaling.proofs.factor.TimeFactor.scale.Tie as tie
 
-is-daily-requires : tie.Need-is-daily-requires
+is-daily-requires : tie.Need-is_daily-requires
 is-daily-requires c κs = search tests
 
-stored-line-requires : tie.Need-stored-line-requires
+stored-line-requires : tie.Need-stored_line-stored-requires
 stored-line-requires c κs = search tests
 
-enum-known-stored : tie.Need-enum-known-stored
+enum-known-stored : tie.Need-enum_known-stored
 enum-known-stored c = search tests
 
 over-requires : tie.Need-over-requires
 over-requires c κs =
     let f = c.before.before.before in
-    told_true _ _ f.before.before.is-daily.ensures f.before.if1.true
+    told_true _ _ f.before.before.is_daily.ensures f.before.if-is_daily.true
 
-returns : tie.Need-returns
+returns : tie.Need-returns-in-Figures
 returns c =
     let f = c.before.before.before.before in
-    let line = rw c.before.before.stored.given.1 at f.stored_line_lem.ensures in
-    c.over.ensures ∙ taken _ _ (told_true _ _ f.before.before.is-daily.ensures f.before.if1.true) line
+    let line = rw c.before.before.stored-1.given.1 at f.stored_line_lem.ensures in
+    c.over.ensures ∙ taken _ _ (told_true _ _ f.before.before.is_daily.ensures f.before.if-is_daily.true) line
 
-enum_told : tie.Need-enum-told
+enum_told : tie.Need-enum_told-1
 enum_told c = search tests
 
-work-out-requires : tie.Need-work-out-requires
+work-out-requires : tie.Need-work_out-requires
 work-out-requires c κs =
     let p = c.before.before.requires in
-    let d = c.before.is-daily.ensures in (
+    let d = c.before.is_daily.ensures in (
       p.0,
       (
         p.1,
         ⊎_elim
             (λ s. and_second _ _ (told_true _ _ d s.0.taken) (rw s.3.given.1 at (has_figures _ s.1.ensures)))
             (λ s. and_first _ _ (told_false _ _ d s.left))
-            c.if1.branch,
+            c.if-is_daily.branch,
       ),
     )
 
-returns-2 : tie.Need-returns-2
+returns-2 : tie.Need-returns
 returns-2 c = search tests
 
-pub scale-spec : {M : Type 1} → statement M
-scale-spec =
+pub scale_spec : {M : Type 1} → statement M
+scale_spec =
     tie.close
     (tie.spec
     is-daily-requires
