@@ -37,49 +37,49 @@ module _ (refusal deals : ℕ) (results out : List ℕ) where
 returns : tie.Need-returns
 returns c = too_short _ _ _ _ (omega arith)
 
-sub-if2 : tie.Need-overflow-sub-if2
+sub-if2 : tie.Need-overflow_sub-out
 sub-if2 c = search tests
 
-returns-2 : tie.Need-returns-2
+returns-2 : tie.Need-returns-then-out-deals
 returns-2 c = too_short _ _ _ _ (omega arith)
 
-returns-3 : tie.Need-returns-3
+returns-3 : tie.Need-returns-then-results-deals
 returns-3 c = too_few _ _ _ _ (omega arith) (omega arith)
 
 slice-aggregate-put-bytes : tie.Need-slice-aggregate-put-bytes
 slice-aggregate-put-bytes c = search tests
 
-put-bytes-requires : tie.Need-put-bytes-requires
+put-bytes-requires : tie.Need-put_bytes-start-requires
 put-bytes-requires c κs = search tests
 
-put-rows-requires : tie.Need-put-rows-requires
+put-rows-requires : tie.Need-put_rows-requires
 put-rows-requires c κs = search tests
 
-same_length : tie.Need-same-length
+same_length : tie.Need-shape_of-out-then-refusal-eq0
 same_length c = search tests
 
-returns-4 : tie.Need-returns-4
+returns-4 : tie.Need-returns-then-refusal-eq0
 returns-4 c =
     let r = c.before.before in
     let h = r.before.before.before.before in
     let t = h.before.before.before in
-    lines _ _ _ _ (omega (arith, t.before)) (omega (arith, t.before)) _ _ t.if4.true
-    (placed_joined 0 heading _ _ _ _ _ _ (omega arith) h.put-bytes.ensures r.put-rows.ensures)
+    lines _ _ _ _ (omega (arith, t.before)) (omega (arith, t.before)) _ _ t.if-refusal-eq0.true
+    (placed_joined 0 heading _ _ _ _ _ _ (omega arith) h.put_bytes-start.ensures r.put_rows.ensures)
 
-put-refusal-requires : tie.Need-put-refusal-requires
+put-refusal-requires : tie.Need-put_refusal-requires
 put-refusal-requires c κs = search tests
 
-same-length-2 : tie.Need-same-length-2
+same-length-2 : tie.Need-shape_of-out
 same-length-2 c = search tests
 
-returns-5 : tie.Need-returns-5
+returns-5 : tie.Need-returns
 returns-5 c =
     let r = c.before.before in
     let t = r.before.before in
-    refusal-alone _ _ _ _ (omega (arith, t.before)) (omega (arith, t.before)) _ _ t.if4.false r.put-refusal.ensures
+    refusal-alone _ _ _ _ (omega (arith, t.before)) (omega (arith, t.before)) _ _ t.if-refusal-eq0.false r.put_refusal.ensures
 
-pub write-result-spec : {M : Type 1} → statement M
-write-result-spec =
+pub write_result_spec : {M : Type 1} → statement M
+write_result_spec =
     tie.close
     (tie.spec
     returns

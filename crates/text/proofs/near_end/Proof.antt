@@ -2,7 +2,7 @@
 use Prim.Native.Nat.{◌-◌}
 use native.Mathlib.Omega.{arith}
 use lib.ListN.{length}
-use Rattle.base.proofs.Tests.{told_not_true}
+use Rattle.base.proofs.Tests.{told_true}
 use Rattle.text.specs.WithinLine.{Near}
 use Rattle.text.proofs.Ends.{near_start, nearer_by}
 use Rattle.text.proofs.near_end.Statement.{statement}
@@ -35,7 +35,7 @@ loop-less c = omega (arith, c.before.before.before.loop-at.invariant.inside, c.b
 loop-again : tie.Need-loop-at-preserved invariant-loop decreases-loop
 loop-again c =
     let l = c.before.before.before in
-    nearer_by _ _ l.loop-at.at l.loop-at.invariant 8 (omega (arith, l.loop-at.invariant.inside, c.before.before.loop-at-test.true)) (told_not_true _ _ c.before.no_feed_in_eight.ensures c.if-not-no_feed_in_eight.false)
+    nearer_by _ _ l.loop-at.at l.loop-at.invariant 8 (omega (arith, l.loop-at.invariant.inside, c.before.before.loop-at-test.true)) (told_true _ _ c.before.no_feed_in_eight.ensures c.if-not-no_feed_in_eight.false)
 
 returns-2 : tie.Need-returns invariant-loop decreases-loop
 returns-2 c = c.before.loop-at.invariant

@@ -23,14 +23,14 @@ one [] e = absurd (omega arith)
 one (b ∷ []) e = refl
 one (b ∷ c ∷ bs) e = absurd (omega arith)
 
-returns : tie.Need-returns
-returns c = sym (other _ (λ e. omega (arith, e, c.if1.true)))
+returns : tie.Need-returns-then-rest-ne1
+returns c = sym (other _ (λ e. omega (arith, e, c.if-rest-ne1.true)))
 
-shared-slice-read-result : tie.Need-shared-slice-read-result
+shared-slice-read-result : tie.Need-bounds-rest-0
 shared-slice-read-result c = omega arith
 
-returns-2 : tie.Need-returns-2
-returns-2 c = sym (one _ (omega (arith, c.before.if1.false)))
+returns-2 : tie.Need-returns
+returns-2 c = sym (one _ (omega (arith, c.before.if-rest-ne1.false)))
 
-pub is-end-spec : {M : Type 1} → statement M
-is-end-spec = tie.close (tie.spec returns shared-slice-read-result returns-2)
+pub is_end_spec : {M : Type 1} → statement M
+is_end_spec = tie.close (tie.spec returns shared-slice-read-result returns-2)

@@ -26,34 +26,34 @@ unfolding field_of
 opened [] h = absurd (omega arith)
 opened (b ∷ bs) h = refl
 
-returns : tie.Need-returns
-returns c = sym (empty _ (omega (arith, c.if1.true)))
+returns : tie.Need-returns-then-rest-eq0
+returns c = sym (empty _ (omega (arith, c.if-rest-eq0.true)))
 
-shared-slice-read-if2 : tie.Need-shared-slice-read-if2
+shared-slice-read-if2 : tie.Need-bounds-rest-0
 shared-slice-read-if2 c = omega arith
 
-returns-2 : tie.Need-returns-2
-returns-2 c = sym (opened _ (omega (arith, c.before.before.if1.false)) ∙ if_false _ _ _ (ne_eqb _ tab c.if2.true))
+returns-2 : tie.Need-returns-then-rest-ne-TAB
+returns-2 c = sym (opened _ (omega (arith, c.before.before.if-rest-eq0.false)) ∙ if_false _ _ _ (ne_eqb _ tab c.if-rest-ne-TAB.true))
 
-sub-read-number : tie.Need-overflow-sub-read-number
+sub-read-number : tie.Need-slice_bounds-read_number-count
 sub-read-number c = omega arith
 
-part-read-number-start : tie.Need-slice-bounds-read-number-start
+part-read-number-start : tie.Need-slice_bounds-read_number-start
 part-read-number-start c = omega arith
 
-part-read-number-end : tie.Need-slice-bounds-read-number-end
+part-read-number-end : tie.Need-slice_bounds-read_number-end
 part-read-number-end c = omega arith
 
-read-number-requires : tie.Need-read-number-requires
+read-number-requires : tie.Need-read_number-requires
 read-number-requires c κs = tt
 
-returns-3 : tie.Need-returns-3
+returns-3 : tie.Need-returns
 returns-3 c =
     let b = c.before.before.before.before in
-    rw rest_part at c.read_number.ensures ∙ sym (opened b.before.before.args.rest.now (omega arith) ∙ if_true _ _ _ (eq-eqb _ tab c.before.before.if2.false))
+    rw rest_part at c.read_number.ensures ∙ sym (opened b.before.before.args.rest.now (omega arith) ∙ if_true _ _ _ (eq-eqb _ tab c.before.before.if-rest-ne-TAB.false))
 
-pub read-field-spec : {M : Type 1} → statement M
-read-field-spec =
+pub read_field_spec : {M : Type 1} → statement M
+read_field_spec =
     tie.close
     (tie.spec
     returns

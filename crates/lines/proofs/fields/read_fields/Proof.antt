@@ -11,7 +11,7 @@ use lib.Seq.{take-suc-set, drop-set-lt, drop-drop, append_snoc, length-take-le}
 use Rattle.base.specs.Choice.{if◌then◌else◌}
 use Rattle.base.specs.Places.{in_places}
 use Rattle.base.proofs.Places.{placed}
-use Rattle.base.proofs.Tests.{tests, told_not_true, told_not_false}
+use Rattle.base.proofs.Tests.{tests, told_true, told_false}
 use Rattle.lines.specs.Fields.{field_of, is_end, and_then, with_number, fields_of, fields_held, most_fields}
 use Rattle.lines.specs.declared.fields.Fields.{Fields}
 use Rattle.lines.specs.declared.number.Number.TheVariants.{Value, NoNumber}
@@ -32,10 +32,10 @@ record Holds (line : List ℕ) (count : ℕ) (values : List ℕ) (at k : ℕ) : 
   passed : fields_of count line ≡ prepend (take k values) (fields_of (count - k) (drop at line))
   zeros : drop k values ≡ drop k (replicate most_fields 0)
 
-abbrev invariant-loop : tie.invariant-loop
+abbrev invariant-loop : tie.invariant-loop-k
 invariant-loop line count values₀ at₀ k₀ values at k = Holds line count values at k
 
-abbrev decreases-loop : tie.decreases-loop
+abbrev decreases-loop : tie.decreases-loop-k
 decreases-loop line count values₀ at₀ k₀ values at k = count - k
 
 nothing-before : (o : Option (List ℕ)) → o ≡ prepend [] o
@@ -96,105 +96,105 @@ module _ (line : List ℕ) (count : ℕ) (values : List ℕ) (at k : ℕ) (held 
         }
 
 -- what the next field is read from
-read : (c : tie.After-read-field invariant-loop decreases-loop)
-    → field_of (drop c.before.before.before.loop.at c.before.before.before.before.before.args.line.now) ≡ c.read-field.result
-read c = sym (rw rest_part at c.read-field.ensures)
+read : (c : tie.After-read_field invariant-loop decreases-loop)
+    → field_of (drop c.before.before.before.loop-k.at c.before.before.before.before.before.args.line.now) ≡ c.read_field.result
+read c = sym (rw rest_part at c.read_field.ensures)
 
 -- and what follows the last one
-end : (c : tie.After-is-end invariant-loop decreases-loop)
-    → c.is-end.result ≡ is_end (drop c.before.before.before.loop.at c.before.before.before.before.before.args.line.now)
-end c = rw rest_part at c.is-end.ensures
+end : (c : tie.After-is_end invariant-loop decreases-loop)
+    → c.is_end.result ≡ is_end (drop c.before.before.before.loop-k.at c.before.before.before.before.before.args.line.now)
+end c = rw rest_part at c.is_end.ensures
 
-next : (c : tie.After-known-told invariant-loop decreases-loop)
+next : (c : tie.In-Value invariant-loop decreases-loop)
     → let l = c.before.before.before.before.before.before in
-    field_of (drop l.loop.at l.before.before.args.line.now) ≡ Value c.before.value.given.0.0 c.before.value.given.0.1.0
-next c = read c.before.before.before ∙ c.before.value.given.1
+    field_of (drop l.loop-k.at l.before.before.args.line.now) ≡ Value c.before.value-1.given.0.0 c.before.value-1.given.0.1.0
+next c = read c.before.before.before ∙ c.before.value-1.given.1
 
-loop-holds : tie.Need-loop-init invariant-loop decreases-loop
+loop-holds : tie.Need-loop-k-init invariant-loop decreases-loop
 loop-holds c =
     let z : c.before.args.count - 0 ≡ c.before.args.count = omega arith in
     record { few = omega arith; inside = omega arith; places = refl; passed = rw z (nothing-before _); zeros = refl }
 
-sub-read-field : tie.Need-overflow-sub-read-field invariant-loop decreases-loop
+sub-read-field : tie.Need-slice_bounds-read_field-count invariant-loop decreases-loop
 sub-read-field c = omega arith
 
-part-read-field-start : tie.Need-slice-bounds-read-field-start invariant-loop decreases-loop
+part-read-field-start : tie.Need-slice_bounds-read_field-start invariant-loop decreases-loop
 part-read-field-start c = omega arith
 
-part-read-field-end : tie.Need-slice-bounds-read-field-end invariant-loop decreases-loop
+part-read-field-end : tie.Need-slice_bounds-read_field-end invariant-loop decreases-loop
 part-read-field-end c = omega arith
 
-read-field-requires : tie.Need-read-field-requires invariant-loop decreases-loop
+read-field-requires : tie.Need-read_field-requires invariant-loop decreases-loop
 read-field-requires c κs = tt
 
-enum_told : tie.Need-enum-told invariant-loop decreases-loop
+enum_told : tie.Need-enum_told-1 invariant-loop decreases-loop
 enum_told c = search tests
 
 unread-requires : tie.Need-unread-requires invariant-loop decreases-loop
 unread-requires c κs = tt
 
-returns : tie.Need-returns invariant-loop decreases-loop
+returns : tie.Need-returns-in-NoNumber invariant-loop decreases-loop
 returns c =
     let r = c.before.before.before in
-    let l = r.before.before.before.loop in
+    let l = r.before.before.before.loop-k in
     c.unread.ensures
-    ∙ ap fields_held (sym (bad _ _ _ _ _ l.invariant r.before.before.loop-test.true (read r ∙ c.before.enum_told.given.1)))
+    ∙ ap fields_held (sym (bad _ _ _ _ _ l.invariant r.before.before.loop-k-test.true (read r ∙ c.before.enum_told-1.given.1)))
 
-enum-known-value : tie.Need-enum-known-value invariant-loop decreases-loop
+enum-known-value : tie.Need-enum_known-value invariant-loop decreases-loop
 enum-known-value c = search tests
 
-mul-values : tie.Need-overflow-mul-values invariant-loop decreases-loop
+mul-values : tie.Need-offset_bounds-values-k invariant-loop decreases-loop
 mul-values c = omega arith
 
-array-write-values : tie.Need-array-write-values invariant-loop decreases-loop
+array-write-values : tie.Need-bounds-values-k invariant-loop decreases-loop
 array-write-values c = omega arith
 
-add_at : tie.Need-overflow-add-at invariant-loop decreases-loop
-add_at c = omega (arith, below _ _ _ _ _ c.before.before.before.before.before.before.loop.invariant _ _ (next c))
+add_at : tie.Need-overflow_add-at invariant-loop decreases-loop
+add_at c = omega (arith, below _ _ _ _ _ c.before.before.before.before.before.before.loop-k.invariant _ _ (next c))
 
-add-at-2 : tie.Need-overflow-add-at-2 invariant-loop decreases-loop
-add-at-2 c = omega (arith, below _ _ _ _ _ c.before.before.before.before.before.before.loop.invariant _ _ (next c))
+add-at-2 : tie.Need-overflow_add-at-in-Value invariant-loop decreases-loop
+add-at-2 c = omega (arith, below _ _ _ _ _ c.before.before.before.before.before.before.loop-k.invariant _ _ (next c))
 
-add-k : tie.Need-overflow-add-k invariant-loop decreases-loop
+add-k : tie.Need-overflow_add-k invariant-loop decreases-loop
 add-k c = omega arith
 
-loop-less : tie.Need-loop-smaller invariant-loop decreases-loop
+loop-less : tie.Need-loop-k-smaller invariant-loop decreases-loop
 loop-less c = omega arith
 
-loop-again : tie.Need-loop-preserved invariant-loop decreases-loop
+loop-again : tie.Need-loop-k-preserved invariant-loop decreases-loop
 loop-again c =
     let b = c.before.before.before.before.before in
-    more _ _ _ _ _ b.before.loop.invariant _ _ (next c) _ b.loop-test.true b.before.before.before.requires (omega arith)
+    more _ _ _ _ _ b.before.loop-k.invariant _ _ (next c) _ b.loop-k-test.true b.before.before.before.requires (omega arith)
 
-sub-is-end : tie.Need-overflow-sub-is-end invariant-loop decreases-loop
+sub-is-end : tie.Need-slice_bounds-is_end-count invariant-loop decreases-loop
 sub-is-end c = omega arith
 
-part-is-end-start : tie.Need-slice-bounds-is-end-start invariant-loop decreases-loop
+part-is-end-start : tie.Need-slice_bounds-is_end-start invariant-loop decreases-loop
 part-is-end-start c = omega arith
 
-part-is-end-end : tie.Need-slice-bounds-is-end-end invariant-loop decreases-loop
+part-is-end-end : tie.Need-slice_bounds-is_end-end invariant-loop decreases-loop
 part-is-end-end c = omega arith
 
-is-end-requires : tie.Need-is-end-requires invariant-loop decreases-loop
+is-end-requires : tie.Need-is_end-requires invariant-loop decreases-loop
 is-end-requires c κs = tt
 
-unread-requires-2 : tie.Need-unread-requires-2 invariant-loop decreases-loop
+unread-requires-2 : tie.Need-unread-requires-then-not-is_end invariant-loop decreases-loop
 unread-requires-2 c κs = tt
 
-returns-2 : tie.Need-returns-2 invariant-loop decreases-loop
+returns-2 : tie.Need-returns-then-not-is_end invariant-loop decreases-loop
 returns-2 c =
     let b = c.before.before in
-    c.unread2.ensures
-    ∙ ap fields_held (sym (unended _ _ _ _ _ b.before.before.before.loop.invariant b.before.before.loop-test.false (told_not_false _ _ (end b) c.before.if1.true)))
+    c.unread-then-not-is_end.ensures
+    ∙ ap fields_held (sym (unended _ _ _ _ _ b.before.before.before.loop-k.invariant b.before.before.loop-k-test.false (told_false _ _ (end b) c.before.if-not-is_end.true)))
 
-returns-3 : tie.Need-returns-3 invariant-loop decreases-loop
+returns-3 : tie.Need-returns invariant-loop decreases-loop
 returns-3 c =
     let b = c.before in
     let l = b.before.before.before in
-    sym (ended _ _ _ _ _ l.loop.invariant l.before.before.requires b.before.before.loop-test.false (told_not_true _ _ (end b) c.if1.false))
+    sym (ended _ _ _ _ _ l.loop-k.invariant l.before.before.requires b.before.before.loop-k-test.false (told_true _ _ (end b) c.if-not-is_end.false))
 
-pub read-fields-spec : {M : Type 1} → statement M
-read-fields-spec =
+pub read_fields_spec : {M : Type 1} → statement M
+read_fields_spec =
     tie.close
     (tie.spec
     invariant-loop

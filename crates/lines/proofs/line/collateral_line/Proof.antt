@@ -11,21 +11,21 @@ use Rattle.lines.specs.declared.line.Line.TheVariants.{CollateralLine}
 use Rattle.lines.proofs.line.collateral_line.Statement.{statement}
 use Rattle.lines.proofs.line.collateral_line.Tie as tie
 
-returns : tie.Need-returns
+returns : tie.Need-returns-then-not-fields
 unfolding if_held
-returns c = sym (if_false _ _ _ (not-true _ c.if1.true))
+returns c = sym (if_false _ _ _ (not-true _ c.if-not-fields.true))
 
-slice-aggregate-collateral-in : tie.Need-slice-aggregate-collateral-in
+slice-aggregate-collateral-in : tie.Need-slice_bounds-collateral_in-end
 slice-aggregate-collateral-in c = search tests
 
-collateral-in-requires : tie.Need-collateral-in-requires
+collateral-in-requires : tie.Need-collateral_in-said-requires
 collateral-in-requires c κs =
     let e : length c.before.before.before.before.args.fields.values ≡ most_fields = search tests in
     omega (arith, e)
 
-returns-2 : tie.Need-returns-2
+returns-2 : tie.Need-returns
 unfolding if_held collateral_line
-returns-2 c = ap CollateralLine c.collateral-in.ensures ∙ sym (if_true _ _ _ (not-false _ c.before.before.before.if1.false))
+returns-2 c = ap CollateralLine c.collateral_in-said.ensures ∙ sym (if_true _ _ _ (not-false _ c.before.before.before.if-not-fields.false))
 
-pub collateral-line-spec : {M : Type 1} → statement M
-collateral-line-spec = tie.close (tie.spec returns slice-aggregate-collateral-in collateral-in-requires returns-2)
+pub collateral_line_spec : {M : Type 1} → statement M
+collateral_line_spec = tie.close (tie.spec returns slice-aggregate-collateral-in collateral-in-requires returns-2)

@@ -14,27 +14,27 @@ use Rattle.lines.proofs.LineLaws.{whole_terms}
 use Rattle.lines.proofs.line.deal_line.Statement.{statement}
 use Rattle.lines.proofs.line.deal_line.Tie as tie
 
-returns : tie.Need-returns
+returns : tie.Need-returns-then-not-fields
 unfolding if_held
-returns c = sym (if_false _ _ _ (not-true _ c.if1.true))
+returns c = sym (if_false _ _ _ (not-true _ c.if-not-fields.true))
 
-with-sovereign-requires : tie.Need-with-sovereign-requires
+with-sovereign-requires : tie.Need-with_sovereign-own-requires
 with-sovereign-requires c κs = tt
 
-slice-aggregate-terms-under : tie.Need-slice-aggregate-terms-under
+slice-aggregate-terms-under : tie.Need-slice_bounds-terms_under-end
 slice-aggregate-terms-under c = search tests
 
-terms-under-requires : tie.Need-terms-under-requires
+terms-under-requires : tie.Need-terms_under-said-requires
 terms-under-requires c κs =
-    let e : length c.before.with-sovereign.result ≡ most_fields = search tests in
+    let e : length c.before.with_sovereign-own.result ≡ most_fields = search tests in
     omega (arith, e)
 
-returns-2 : tie.Need-returns-2
+returns-2 : tie.Need-returns
 unfolding if_held deal_line
 returns-2 c =
     let w = c.before.before in
     let s = w.before.before.before.before in
-    ap DealLine (c.terms-under.ensures ∙ ap (λ fields. terms_under s.args.edition fields) w.with-sovereign.ensures ∙ whole_terms (with_sovereign s.args.edition s.args.fields.values) _) ∙ sym (if_true _ _ _ (not-false _ w.before.before.if1.false))
+    ap DealLine (c.terms_under-said.ensures ∙ ap (λ fields. terms_under s.args.edition fields) w.with_sovereign-own.ensures ∙ whole_terms (with_sovereign s.args.edition s.args.fields.values) _) ∙ sym (if_true _ _ _ (not-false _ w.before.before.if-not-fields.false))
 
-pub deal-line-spec : {M : Type 1} → statement M
-deal-line-spec = tie.close (tie.spec returns with-sovereign-requires slice-aggregate-terms-under terms-under-requires returns-2)
+pub deal_line_spec : {M : Type 1} → statement M
+deal_line_spec = tie.close (tie.spec returns with-sovereign-requires slice-aggregate-terms-under terms-under-requires returns-2)

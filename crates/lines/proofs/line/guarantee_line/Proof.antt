@@ -14,27 +14,27 @@ use Rattle.lines.proofs.LineLaws.{whole_guarantee}
 use Rattle.lines.proofs.line.guarantee_line.Statement.{statement}
 use Rattle.lines.proofs.line.guarantee_line.Tie as tie
 
-returns : tie.Need-returns
+returns : tie.Need-returns-then-not-fields
 unfolding if_held
-returns c = sym (if_false _ _ _ (not-true _ c.if1.true))
+returns c = sym (if_false _ _ _ (not-true _ c.if-not-fields.true))
 
-with-sovereign-requires : tie.Need-with-sovereign-requires
+with-sovereign-requires : tie.Need-with_sovereign-own-requires
 with-sovereign-requires c κs = tt
 
-slice-aggregate-guarantee-sent : tie.Need-slice-aggregate-guarantee-sent
+slice-aggregate-guarantee-sent : tie.Need-slice_bounds-guarantee_sent-end
 slice-aggregate-guarantee-sent c = search tests
 
-guarantee-sent-requires : tie.Need-guarantee-sent-requires
+guarantee-sent-requires : tie.Need-guarantee_sent-said-requires
 guarantee-sent-requires c κs =
-    let e : length c.before.with-sovereign.result ≡ most_fields = search tests in
+    let e : length c.before.with_sovereign-own.result ≡ most_fields = search tests in
     omega (arith, e)
 
-returns-2 : tie.Need-returns-2
+returns-2 : tie.Need-returns
 unfolding if_held guarantee_line
 returns-2 c =
     let w = c.before.before in
     let s = w.before.before.before.before in
-    ap GuaranteeLine (c.guarantee-sent.ensures ∙ ap (λ fields. guarantee_sent fields) w.with-sovereign.ensures ∙ whole_guarantee (with_sovereign s.args.edition s.args.fields.values)) ∙ sym (if_true _ _ _ (not-false _ w.before.before.if1.false))
+    ap GuaranteeLine (c.guarantee_sent-said.ensures ∙ ap (λ fields. guarantee_sent fields) w.with_sovereign-own.ensures ∙ whole_guarantee (with_sovereign s.args.edition s.args.fields.values)) ∙ sym (if_true _ _ _ (not-false _ w.before.before.if-not-fields.false))
 
-pub guarantee-line-spec : {M : Type 1} → statement M
-guarantee-line-spec = tie.close (tie.spec returns with-sovereign-requires slice-aggregate-guarantee-sent guarantee-sent-requires returns-2)
+pub guarantee_line_spec : {M : Type 1} → statement M
+guarantee_line_spec = tie.close (tie.spec returns with-sovereign-requires slice-aggregate-guarantee-sent guarantee-sent-requires returns-2)

@@ -48,31 +48,31 @@ module _ (edition : ℕ) where
   other [] d c g s = refl
   other (b ∷ bs) d c g s = simp (ne_eqb b 68 d, ne_eqb b 67 c, ne_eqb b 71 g, ne_eqb b 83 s)
 
-returns : tie.Need-returns
-returns c = sym (empty _ _ (omega (arith, c.if1.true)))
+returns : tie.Need-returns-then-line-eq0
+returns c = sym (empty _ _ (omega (arith, c.if-line-eq0.true)))
 
-shared-slice-read-letter : tie.Need-shared-slice-read-letter
+shared-slice-read-letter : tie.Need-bounds-line-0
 shared-slice-read-letter c = omega arith
 
-width-under-requires : tie.Need-width-under-requires
+width-under-requires : tie.Need-width_under-width-requires
 width-under-requires c κs = omega arith
 
-sub-read-fields : tie.Need-overflow-sub-read-fields
+sub-read-fields : tie.Need-slice_bounds-read_fields-count
 sub-read-fields c = omega arith
 
-part-read-fields-start : tie.Need-slice-bounds-read-fields-start
+part-read-fields-start : tie.Need-slice_bounds-read_fields-start
 part-read-fields-start c = omega arith
 
-part-read-fields-end : tie.Need-slice-bounds-read-fields-end
+part-read-fields-end : tie.Need-slice_bounds-read_fields-end
 part-read-fields-end c = omega arith
 
-read-fields-requires : tie.Need-read-fields-requires
-read-fields-requires c κs = omega (arith, c.before.width-under.ensures, width_le c.before.before.before.before.before.before.args.edition 11)
+read-fields-requires : tie.Need-read_fields-requires
+read-fields-requires c κs = omega (arith, c.before.width_under-width.ensures, width_le c.before.before.before.before.before.before.args.edition 11)
 
-deal-line-requires : tie.Need-deal-line-requires
+deal-line-requires : tie.Need-deal_line-requires
 deal-line-requires c κs = tt
 
-sub-read-fields-2 : tie.Need-overflow-sub-read-fields-2
+sub-read-fields-2 : tie.Need-slice_bounds-read_fields-count-in-67
 sub-read-fields-2 c = omega arith
 
 part-read-fields-start-2 : tie.Need-slice-bounds-read-fields-start-2
@@ -81,16 +81,16 @@ part-read-fields-start-2 c = omega arith
 part-read-fields-end-2 : tie.Need-slice-bounds-read-fields-end-2
 part-read-fields-end-2 c = omega arith
 
-read-fields-requires-2 : tie.Need-read-fields-requires-2
+read-fields-requires-2 : tie.Need-read_fields-requires-in-67
 read-fields-requires-2 c κs = omega arith
 
-collateral-line-requires : tie.Need-collateral-line-requires
+collateral-line-requires : tie.Need-collateral_line-requires
 collateral-line-requires c κs = tt
 
-width-under-requires-2 : tie.Need-width-under-requires-2
+width-under-requires-2 : tie.Need-width_under-width-requires-in-71
 width-under-requires-2 c κs = omega arith
 
-sub-read-fields-3 : tie.Need-overflow-sub-read-fields-3
+sub-read-fields-3 : tie.Need-slice_bounds-read_fields-count-in-71
 sub-read-fields-3 c = omega arith
 
 part-read-fields-start-3 : tie.Need-slice-bounds-read-fields-start-3
@@ -99,49 +99,49 @@ part-read-fields-start-3 c = omega arith
 part-read-fields-end-3 : tie.Need-slice-bounds-read-fields-end-3
 part-read-fields-end-3 c = omega arith
 
-read-fields-requires-3 : tie.Need-read-fields-requires-3
-read-fields-requires-3 c κs = omega (arith, c.before.width-under2.ensures, width_le c.before.before.before.before.before.before.args.edition 10)
+read-fields-requires-3 : tie.Need-read_fields-requires-in-71
+read-fields-requires-3 c κs = omega (arith, c.before.width_under-width-in-71.ensures, width_le c.before.before.before.before.before.before.args.edition 10)
 
-guarantee-line-requires : tie.Need-guarantee-line-requires
+guarantee-line-requires : tie.Need-guarantee_line-requires
 guarantee-line-requires c κs = tt
 
-width-under-requires-3 : tie.Need-width-under-requires-3
+width-under-requires-3 : tie.Need-width_under-width-requires-in-83
 width-under-requires-3 c κs = omega arith
 
-read-fields-requires-4 : tie.Need-read-fields-requires-4
-read-fields-requires-4 c κs = omega (arith, c.before.width-under3.ensures, width_le c.before.before.before.before.before.before.args.edition 11)
+read-fields-requires-4 : tie.Need-read_fields-requires-in-83
+read-fields-requires-4 c κs = omega (arith, c.before.width_under-width-in-83.ensures, width_le c.before.before.before.before.before.before.args.edition 11)
 
-returns-2 : tie.Need-returns-2
+returns-2 : tie.Need-returns-in-68
 returns-2 c =
     let w = c.before.before.before in
-    let e = rw rest_part at c.before.read-fields.ensures in
-    rw (c.deal-line.ensures, e, w.width-under.ensures, deal_held) (sym (deal _ _ (omega arith) (omega (arith, w.before.match.keys1))))
+    let e = rw rest_part at c.before.read_fields.ensures in
+    rw (c.deal_line.ensures, e, w.width_under-width.ensures, deal_held) (sym (deal _ _ (omega arith) (omega (arith, w.before.in-68.is))))
 
-returns-3 : tie.Need-returns-3
+returns-3 : tie.Need-returns-in-67
 returns-3 c =
     let m = c.before.before.before in
-    let e = rw rest_part at c.before.read-fields2.ensures in
-    rw (c.collateral_line_lem.ensures, e, collateral_held) (sym (collateral _ _ (omega arith) (omega (arith, m.match.keys2))))
+    let e = rw rest_part at c.before.read_fields-in-67.ensures in
+    rw (c.collateral_line.ensures, e, collateral_held) (sym (collateral _ _ (omega arith) (omega (arith, m.in-67.is))))
 
-returns-4 : tie.Need-returns-4
+returns-4 : tie.Need-returns-in-71
 returns-4 c =
     let w = c.before.before.before in
-    let e = rw rest_part at c.before.read-fields3.ensures in
-    rw (c.guarantee_line_lem.ensures, e, w.width-under2.ensures, guarantee_held) (sym (guarantee _ _ (omega arith) (omega (arith, w.before.match.keys3))))
+    let e = rw rest_part at c.before.read_fields-in-71.ensures in
+    rw (c.guarantee_line.ensures, e, w.width_under-width-in-71.ensures, guarantee_held) (sym (guarantee _ _ (omega arith) (omega (arith, w.before.in-71.is))))
 
-returns-5 : tie.Need-returns-5
+returns-5 : tie.Need-returns-in-83
 returns-5 c =
     let w = c.before.before.before in
-    let e = rw rest_part at c.before.read-fields4.ensures in
-    rw (c.Swap-Line.ensures, e, w.width-under3.ensures, swap_held) (sym (swap _ _ (omega arith) (omega (arith, w.before.match.keys4))))
+    let e = rw rest_part at c.before.read_fields-in-83.ensures in
+    rw (c.swap_line.ensures, e, w.width_under-width-in-83.ensures, swap_held) (sym (swap _ _ (omega arith) (omega (arith, w.before.in-83.is))))
 
-returns-6 : tie.Need-returns-6
+returns-6 : tie.Need-returns-in_default
 returns-6 c =
-    let r = c.match.rest in
+    let r = c.in_default.rest in
     sym (other _ _ r.0.0.0.1 r.0.0.1 r.0.1 r.1)
 
-pub read-line-spec : {M : Type 1} → statement M
-read-line-spec =
+pub read_line_spec : {M : Type 1} → statement M
+read_line_spec =
     tie.close
     (tie.spec
     returns

@@ -24,39 +24,39 @@ module _ (text : List ℕ) (n : ℕ) where
   unfolding number_allowed
   some h k = rw (length-take-le n text h.0, get_or-take n text 0 0 k, inside 1 13 n k h.1)
 
-returns : tie.Need-returns
+returns : tie.Need-returns-then-digits-eq0
 unfolding number_read
-returns c = sym (if_false _ _ _ (none _ _ c.before.before.requires.0 (omega (arith, c.if1.true))))
+returns c = sym (if_false _ _ _ (none _ _ c.before.before.requires.0 (omega (arith, c.if-digits-eq0.true))))
 
-shared-slice-read-wide : tie.Need-shared-slice-read-wide
+shared-slice-read-wide : tie.Need-bounds-text-0
 shared-slice-read-wide c = omega arith
 
 wide-requires : tie.Need-wide-requires
 wide-requires c κs = tt
 
-returns-2 : tie.Need-returns-2
+returns-2 : tie.Need-returns-then-wide-eq-FIRST_DIGIT
 unfolding number_read
 returns-2 c =
     let b = c.before.before.before in
-    let many = ne_eqb b.before.before.before.args.digits 1 (λ e. omega (arith, b.if2.true, e)) in
-    let zero = eq-eqb _ 48 (sym c.before.wide.ensures ∙ c.if3.true) in
-    sym (if_false _ _ _ (some _ _ b.before.before.before.requires (omega (arith, b.if2.true)) ∙ or_false _ _ many (not_false _ zero)))
+    let many = ne_eqb b.before.before.before.args.digits 1 (λ e. omega (arith, b.if-digits-gt1.true, e)) in
+    let zero = eq-eqb _ 48 (sym c.before.wide.ensures ∙ c.if-wide-eq-FIRST_DIGIT.true) in
+    sym (if_false _ _ _ (some _ _ b.before.before.before.requires (omega (arith, b.if-digits-gt1.true)) ∙ or_false _ _ many (not_false _ zero)))
 
-returns-3 : tie.Need-returns-3
+returns-3 : tie.Need-returns-else-wide-eq-FIRST_DIGIT
 unfolding number_read
 returns-3 c =
     let b = c.before.before.before in
-    let many = ne_eqb b.before.before.before.args.digits 1 (λ e. omega (arith, b.if2.true, e)) in
-    let other = ne_eqb _ 48 (λ e. c.if3.false (c.before.wide.ensures ∙ e)) in
-    sym (if_true _ _ _ (some _ _ b.before.before.before.requires (omega (arith, b.if2.true)) ∙ or_second _ _ many (not_true _ other)))
+    let many = ne_eqb b.before.before.before.args.digits 1 (λ e. omega (arith, b.if-digits-gt1.true, e)) in
+    let other = ne_eqb _ 48 (λ e. c.if-wide-eq-FIRST_DIGIT.false (c.before.wide.ensures ∙ e)) in
+    sym (if_true _ _ _ (some _ _ b.before.before.before.requires (omega (arith, b.if-digits-gt1.true)) ∙ or_second _ _ many (not_true _ other)))
 
-returns-4 : tie.Need-returns-4
+returns-4 : tie.Need-returns-else-digits-gt1
 unfolding number_read
 returns-4 c =
     let b = c.before.before.before in
     let one = eq-eqb b.args.digits 1 (omega arith) in
     sym (if_true _ _ _ (some _ _ b.requires (omega arith) ∙ or_first _ _ one))
 
-pub ended-spec : {M : Type 1} → statement M
-ended-spec =
+pub ended_spec : {M : Type 1} → statement M
+ended_spec =
     tie.close (tie.spec returns shared-slice-read-wide wide-requires returns-2 returns-3 returns-4)

@@ -11,5 +11,5 @@ within-requires c κs = tt
 returns : tie.Need-returns
 returns c = rw (c.within.ensures, c.before.wide.ensures)
 
-pub is-digit-spec : {M : Type 1} → statement M
-is-digit-spec = tie.close (tie.spec wide-requires within-requires returns)
+pub is_digit_spec : {M : Type 1} → statement M
+is_digit_spec = tie.close (tie.spec wide-requires within-requires returns)

@@ -8,7 +8,7 @@ use native.Mathlib.Nat.{pow-suc, pow-le-pow_right}
 use native.Mathlib.Numerals.{add-one}
 use lib.ListN.{length, take, drop, get_or, length-append}
 use lib.Seq.{take-suc, length-take-le, append_snoc}
-use Rattle.base.proofs.Tests.{told_not_true, told_not_false}
+use Rattle.base.proofs.Tests.{told_true, told_false}
 use Rattle.base.proofs.Range.{bounds}
 use Rattle.text.specs.Decimal.{decimal, decimal_from}
 use Rattle.text.proofs.Decimal.{decimal_more}
@@ -25,10 +25,10 @@ record Holds (text : List ℕ) (value i : ℕ) : Type 0 where
   made : value ≡ decimal (take i text)
   small : value < 10 ^ i
 
-abbrev invariant-loop : tie.invariant-loop
+abbrev invariant-loop : tie.invariant-loop-i
 invariant-loop text value₀ i₀ value i = Holds text value i
 
-abbrev decreases-loop : tie.decreases-loop
+abbrev decreases-loop : tie.decreases-loop-i
 decreases-loop text value₀ i₀ value i = length text - i
 
 module _ (text : List ℕ) (value i : ℕ) (held : Holds text value i) where
@@ -59,72 +59,72 @@ module _ (text : List ℕ) (value i : ℕ) (held : Holds text value i) where
         small = rw (add-one i, pow-suc) (omega (arith, q, held.small, bounds 48 57 _ e));
       }
 
-loop-holds : tie.Need-loop-init invariant-loop decreases-loop
+loop-holds : tie.Need-loop-i-init invariant-loop decreases-loop
 unfolding decimal_from
 loop-holds c = record { inside = omega arith; few = omega arith; passed = refl; made = refl; small = omega arith }
 
 -- the byte that is not the end
-digit : (c : tie.Else1 invariant-loop decreases-loop)
+digit : (c : tie.Else-not-is_digit invariant-loop decreases-loop)
     → let l = c.before.before.before.before in
-    is_digit (get_or l.before.before.args.text.now l.loop.i 0) ≡ true
-digit c = told_not_true _ _ c.before.is_digit.ensures c.if1.false
+    is_digit (get_or l.before.before.args.text.now l.loop-i.i 0) ≡ true
+digit c = told_true _ _ c.before.is_digit.ensures c.if-not-is_digit.false
 
-shared-slice-read-byte : tie.Need-shared-slice-read-byte invariant-loop decreases-loop
+shared-slice-read-byte : tie.Need-bounds-text-i invariant-loop decreases-loop
 shared-slice-read-byte c = omega arith
 
-is-digit-requires : tie.Need-is-digit-requires invariant-loop decreases-loop
+is-digit-requires : tie.Need-is_digit-requires invariant-loop decreases-loop
 is-digit-requires c κs = tt
 
 ended-requires : tie.Need-ended-requires invariant-loop decreases-loop
 ended-requires c κs =
-    let l = c.before.before.before.before.loop.invariant in
+    let l = c.before.before.before.before.loop-i.invariant in
     (l.inside, l.few)
 
-returns : tie.Need-returns invariant-loop decreases-loop
+returns : tie.Need-returns-then-not-is_digit invariant-loop decreases-loop
 returns c =
     let b = c.before.before in
-    let l = b.before.before.before.loop in
-    c.ended.ensures ∙ ended _ _ _ l.invariant (digits_end _ _ b.before.before.loop-test.true (told_not_false _ _ b.is_digit.ensures c.before.if1.true))
+    let l = b.before.before.before.loop-i in
+    c.ended.ensures ∙ ended _ _ _ l.invariant (digits_end _ _ b.before.before.loop-i-test.true (told_false _ _ b.is_digit.ensures c.before.if-not-is_digit.true))
 
-returns-2 : tie.Need-returns-2 invariant-loop decreases-loop
+returns-2 : tie.Need-returns-then-i-ge-MOST_DIGITS invariant-loop decreases-loop
 returns-2 c =
     let b = c.before.before.before.before in
-    sym (full _ _ _ b.before.loop.invariant b.loop-test.true (omega (arith, c.if2.true)) (digit c.before))
+    sym (full _ _ _ b.before.loop-i.invariant b.loop-i-test.true (omega (arith, c.if-i-ge-MOST_DIGITS.true)) (digit c.before))
 
-mul-value : tie.Need-overflow-mul-value invariant-loop decreases-loop
-mul-value c = omega (arith, fits _ _ _ c.before.before.before.before.before.loop.invariant)
+mul-value : tie.Need-overflow_mul-value invariant-loop decreases-loop
+mul-value c = omega (arith, fits _ _ _ c.before.before.before.before.before.loop-i.invariant)
 
 wide-requires : tie.Need-wide-requires invariant-loop decreases-loop
 wide-requires c κs = tt
 
-sub-value : tie.Need-overflow-sub-value invariant-loop decreases-loop
+sub-value : tie.Need-overflow_sub-value invariant-loop decreases-loop
 sub-value c = omega (arith, c.wide.ensures, bounds 48 57 _ (digit c.before.before))
 
-add-value : tie.Need-overflow-add-value invariant-loop decreases-loop
+add-value : tie.Need-overflow_add-value invariant-loop decreases-loop
 add-value c =
-    omega (arith, fits _ _ _ c.before.before.before.before.before.before.loop.invariant, c.wide.ensures, bounds 48 57 _ (digit c.before.before))
+    omega (arith, fits _ _ _ c.before.before.before.before.before.before.loop-i.invariant, c.wide.ensures, bounds 48 57 _ (digit c.before.before))
 
-add-i : tie.Need-overflow-add-i invariant-loop decreases-loop
+add-i : tie.Need-overflow_add-i invariant-loop decreases-loop
 add-i c = omega arith
 
-loop-less : tie.Need-loop-smaller invariant-loop decreases-loop
+loop-less : tie.Need-loop-i-smaller invariant-loop decreases-loop
 loop-less c = omega arith
 
-loop-again : tie.Need-loop-preserved invariant-loop decreases-loop
+loop-again : tie.Need-loop-i-preserved invariant-loop decreases-loop
 loop-again c =
     let b = c.before.before.before.before.before in
-    more _ _ _ b.before.loop.invariant _ b.loop-test.true (omega (arith, c.before.if2.false)) (digit c.before.before) (omega (arith, c.wide.ensures))
+    more _ _ _ b.before.loop-i.invariant _ b.loop-i-test.true (omega (arith, c.before.if-i-ge-MOST_DIGITS.false)) (digit c.before.before) (omega (arith, c.wide.ensures))
 
 ended-requires-2 : tie.Need-ended-requires-2 invariant-loop decreases-loop
 ended-requires-2 c κs =
-    let l = c.before.loop.invariant in
+    let l = c.before.loop-i.invariant in
     (l.inside, l.few)
 
-returns-3 : tie.Need-returns-3 invariant-loop decreases-loop
-returns-3 c = c.ended2.ensures ∙ ended _ _ _ c.before.before.loop.invariant (digits_past _ _ c.before.loop-test.false)
+returns-3 : tie.Need-returns invariant-loop decreases-loop
+returns-3 c = c.ended-2.ensures ∙ ended _ _ _ c.before.before.loop-i.invariant (digits_past _ _ c.before.loop-i-test.false)
 
-pub read-number-spec : {M : Type 1} → statement M
-read-number-spec =
+pub read_number_spec : {M : Type 1} → statement M
+read_number_spec =
     tie.close
     (tie.spec
     invariant-loop

@@ -6,19 +6,19 @@ use Rattle.lines.specs.Sovereign.{width_under}
 use Rattle.lines.proofs.sovereign.width_under.Statement.{statement}
 use Rattle.lines.proofs.sovereign.width_under.Tie as tie
 
-leaves-out-sovereign-requires : tie.Need-leaves-out-sovereign-requires
+leaves-out-sovereign-requires : tie.Need-leaves_out_sovereign-requires
 leaves-out-sovereign-requires c κs = tt
 
-sub-result : tie.Need-overflow-sub-result
+sub-result : tie.Need-overflow_sub-result
 sub-result c = search tests
 
-returns : tie.Need-returns
+returns : tie.Need-returns-then-leaves_out_sovereign
 unfolding width_under
-returns c = sym (if_true _ _ _ (told_true _ _ c.before.leaves-out-sovereign.ensures c.if1.true))
+returns c = sym (if_true _ _ _ (told_true _ _ c.before.leaves_out_sovereign.ensures c.if-leaves_out_sovereign.true))
 
-returns-2 : tie.Need-returns-2
+returns-2 : tie.Need-returns
 unfolding width_under
-returns-2 c = sym (if_false _ _ _ (told_false _ _ c.before.leaves-out-sovereign.ensures c.if1.false))
+returns-2 c = sym (if_false _ _ _ (told_false _ _ c.before.leaves_out_sovereign.ensures c.if-leaves_out_sovereign.false))
 
-pub width-under-spec : {M : Type 1} → statement M
-width-under-spec = tie.close (tie.spec leaves-out-sovereign-requires sub-result returns returns-2)
+pub width_under_spec : {M : Type 1} → statement M
+width_under_spec = tie.close (tie.spec leaves-out-sovereign-requires sub-result returns returns-2)

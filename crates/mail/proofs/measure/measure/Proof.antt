@@ -9,40 +9,40 @@ use Rattle.mail.proofs.measure.measure.Lts as lts
 use Rattle.mail.proofs.measure.one_more.Reads as one-more-reads
 use Rattle.mail.proofs.measure.pass.Reads as pass-reads
 
-abbrev invariant-loop : tie.invariant-loop
+abbrev invariant-loop : tie.invariant-loop-passed
 invariant-loop book passed₀ passed = Measuring book passed.place passed.sizes
 
-abbrev decreases-loop : tie.decreases-loop
+abbrev decreases-loop : tie.decreases-loop-passed
 decreases-loop book passed₀ passed = passed.place.at
 
 -- src/measure.rt:88:5
-loop-holds : tie.Need-loop-init invariant-loop decreases-loop
+loop-holds : tie.Need-loop-passed-init invariant-loop decreases-loop
 loop-holds c = none_passed _ c.before.requires
 
 -- src/measure.rt:89:9
-pass-requires : tie.Need-pass-requires invariant-loop decreases-loop
-pass-requires c κs = (omega (arith, c.if1.true), c.before.before.loop.invariant)
+pass-requires : tie.Need-pass-passed-requires invariant-loop decreases-loop
+pass-requires c κs = (omega (arith, c.loop-passed-test.true), c.before.before.loop-passed.invariant)
 
 -- src/measure.rt:88:5
-loop-less : tie.Need-loop-smaller invariant-loop decreases-loop
-loop-less c = c.pass.ensures.0
+loop-less : tie.Need-loop-passed-smaller invariant-loop decreases-loop
+loop-less c = c.pass-passed.ensures.0
 
 -- src/measure.rt:88:5
-loop-again : tie.Need-loop-preserved invariant-loop decreases-loop
-loop-again c = c.pass.ensures.1
+loop-again : tie.Need-loop-passed-preserved invariant-loop decreases-loop
+loop-again c = c.pass-passed.ensures.1
 
 -- src/measure.rt:93:16
-one-more-requires : tie.Need-one-more-requires invariant-loop decreases-loop
-one-more-requires c κs = few_altered _ _ _ c.before.before.loop.invariant
+one-more-requires : tie.Need-one_more-requires invariant-loop decreases-loop
+one-more-requires c κs = few_altered _ _ _ c.before.before.loop-passed.invariant
 
 -- src/measure.rt:72:1
 returns : tie.Need-returns invariant-loop decreases-loop
 returns c =
-    let l = c.before.before.before.loop in
-    rw c.one_more.ensures (all_passed _ _ _ (omega (arith, c.before.if1.false)) l.invariant)
+    let l = c.before.before.before.loop-passed in
+    rw c.one_more.ensures (all_passed _ _ _ (omega (arith, c.before.loop-passed-test.false)) l.invariant)
 
-pub measure-spec : {M : Type 1} → statement M
-measure-spec =
+pub measure_spec : {M : Type 1} → statement M
+measure_spec =
     tie.close
     (tie.spec
     invariant-loop

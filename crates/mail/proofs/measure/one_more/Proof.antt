@@ -4,14 +4,14 @@ use native.Mathlib.Numerals.{add-one}
 use Rattle.mail.proofs.measure.one_more.Statement.{statement}
 use Rattle.mail.proofs.measure.one_more.Tie as tie
 
-add-result : tie.Need-overflow-add-result
+add-result : tie.Need-overflow_add-result
 add-result c = search rules
 
-returns : tie.Need-returns
-returns c = rw c.if1.true (add-one _)
+returns : tie.Need-returns-then-more
+returns c = rw c.if-more.true (add-one _)
 
-returns-2 : tie.Need-returns-2
+returns-2 : tie.Need-returns
 returns-2 c = search rules
 
-pub one-more-spec : {M : Type 1} → statement M
-one-more-spec = tie.close (tie.spec add-result returns returns-2)
+pub one_more_spec : {M : Type 1} → statement M
+one_more_spec = tie.close (tie.spec add-result returns returns-2)

@@ -15,45 +15,45 @@ record Holds (book : List ℕ) (end start : ℕ) : Type 0 where
   back : start ≤ end
   run : drop start book ≡ replicate (end - start) carriage_return ++ drop end book
 
-abbrev invariant-loop : tie.invariant-loop
+abbrev invariant-loop : tie.invariant-loop-start
 invariant-loop book end start₀ start = Holds book end start
 
-abbrev decreases-loop : tie.decreases-loop
+abbrev decreases-loop : tie.decreases-loop-start
 decreases-loop book end start₀ start = start
 
-loop-holds : tie.Need-loop-init invariant-loop decreases-loop
+loop-holds : tie.Need-loop-start-init invariant-loop decreases-loop
 loop-holds c = record { back = omega arith; run = rw sub_self }
 
-sub-before : tie.Need-overflow-sub-before invariant-loop decreases-loop
+sub-before : tie.Need-overflow_sub-before invariant-loop decreases-loop
 sub-before c = omega arith
 
-shared-slice-read-if1 : tie.Need-shared-slice-read-if1 invariant-loop decreases-loop
-shared-slice-read-if1 c = omega (arith, c.before.before.before.requires, c.before.before.loop.invariant.back, c.before.loop-test.true)
+shared-slice-read-if1 : tie.Need-bounds-book-before invariant-loop decreases-loop
+shared-slice-read-if1 c = omega (arith, c.before.before.before.requires, c.before.before.loop-start.invariant.back, c.before.loop-start-test.true)
 
-returns : tie.Need-returns invariant-loop decreases-loop
+returns : tie.Need-returns-then-book-before-ne-CARRIAGE_RETURN invariant-loop decreases-loop
 returns c =
-    let l = c.before.before.before.loop in
-    record { back = l.invariant.back; run = l.invariant.run; first = λ h. ne_eqb _ _ c.if1.true }
+    let l = c.before.before.before.loop-start in
+    record { back = l.invariant.back; run = l.invariant.run; first = λ h. ne_eqb _ _ c.if-book-before-ne-CARRIAGE_RETURN.true }
 
-loop-less : tie.Need-loop-smaller invariant-loop decreases-loop
+loop-less : tie.Need-loop-start-smaller invariant-loop decreases-loop
 loop-less c = omega arith
 
-loop-again : tie.Need-loop-preserved invariant-loop decreases-loop
+loop-again : tie.Need-loop-start-preserved invariant-loop decreases-loop
 loop-again c =
-    let l = c.before.before.before.loop in
+    let l = c.before.before.before.loop-start in
     let a = c.before.before.before.before in
     record {
       back = omega (arith, l.invariant.back);
-      run = return_more _ _ _ (omega (arith, c.before.before.loop-test.true)) a.requires l.invariant.back l.invariant.run c.if1.false;
+      run = return_more _ _ _ (omega (arith, c.before.before.loop-start-test.true)) a.requires l.invariant.back l.invariant.run c.if-book-before-ne-CARRIAGE_RETURN.false;
     }
 
-returns-2 : tie.Need-returns-2 invariant-loop decreases-loop
+returns-2 : tie.Need-returns invariant-loop decreases-loop
 returns-2 c =
-    let l = c.before.loop in
-    record { back = l.invariant.back; run = l.invariant.run; first = λ h. absurd (omega (arith, h, c.loop-test.false)) }
+    let l = c.before.loop-start in
+    record { back = l.invariant.back; run = l.invariant.run; first = λ h. absurd (omega (arith, h, c.loop-start-test.false)) }
 
-pub returns-start-spec : {M : Type 1} → statement M
-returns-start-spec =
+pub returns_start_spec : {M : Type 1} → statement M
+returns_start_spec =
     tie.close
     (tie.spec
     invariant-loop

@@ -4,17 +4,17 @@ use Rattle.base.proofs.Writing.{placed_byte}
 use Rattle.result.proofs.buffer.put_byte.Statement.{statement}
 use Rattle.result.proofs.buffer.put_byte.Tie as tie
 
-slice-write-out : tie.Need-slice-write-out
+slice-write-out : tie.Need-bounds-out-at
 slice-write-out c = search tests
 
-add-result : tie.Need-overflow-add-result
+add-result : tie.Need-overflow_add-result
 add-result c = search tests
 
-same_length : tie.Need-same-length
+same_length : tie.Need-shape_of-out
 same_length c = search tests
 
 returns : tie.Need-returns
 returns c = placed_byte _ _ _ c.requires
 
-pub put-byte-spec : {M : Type 1} → statement M
-put-byte-spec = tie.close (tie.spec slice-write-out add-result same_length returns)
+pub put_byte_spec : {M : Type 1} → statement M
+put_byte_spec = tie.close (tie.spec slice-write-out add-result same_length returns)

@@ -18,10 +18,10 @@ record Holds (before : List ℕ) (at : ℕ) (bytes out : List ℕ) (i : ℕ) : T
   same : length out ≡ length before
   done : Placed at (take i bytes) before out (at + i)
 
-abbrev invariant-loop : tie.invariant-loop
+abbrev invariant-loop : tie.invariant-loop-i
 invariant-loop out₀ at bytes i₀ out i = Holds out₀ at bytes out i
 
-abbrev decreases-loop : tie.decreases-loop
+abbrev decreases-loop : tie.decreases-loop-i
 decreases-loop out₀ at bytes i₀ out i = length bytes - i
 
 -- one byte more
@@ -31,27 +31,27 @@ further at bytes before out i h k e p =
     rw (add-one i, take-suc bytes i 0 k, add-suc at i, ← add-one (at + i))
     (placed_joined at _ _ before out _ (at + i) _ (omega arith) p (placed_byte (at + i) (get_or bytes i 0) out h))
 
-loop-holds : tie.Need-loop-init invariant-loop decreases-loop
+loop-holds : tie.Need-loop-i-init invariant-loop decreases-loop
 loop-holds c = record { inside = omega arith; same = refl; done = rw add-zero (placed_none c.args.at c.args.out.now) }
 
-shared-slice-read-out : tie.Need-shared-slice-read-out invariant-loop decreases-loop
+shared-slice-read-out : tie.Need-bounds-bytes-i invariant-loop decreases-loop
 shared-slice-read-out c = search tests
 
-add-out : tie.Need-overflow-add-out invariant-loop decreases-loop
+add-out : tie.Need-overflow_add-out invariant-loop decreases-loop
 add-out c = search tests
 
-slice-write-out : tie.Need-slice-write-out invariant-loop decreases-loop
+slice-write-out : tie.Need-bounds-out-at invariant-loop decreases-loop
 slice-write-out c = search tests
 
-add-i : tie.Need-overflow-add-i invariant-loop decreases-loop
+add-i : tie.Need-overflow_add-i invariant-loop decreases-loop
 add-i c = search tests
 
-loop-less : tie.Need-loop-smaller invariant-loop decreases-loop
+loop-less : tie.Need-loop-i-smaller invariant-loop decreases-loop
 loop-less c = search tests
 
-loop-again : tie.Need-loop-preserved invariant-loop decreases-loop
+loop-again : tie.Need-loop-i-preserved invariant-loop decreases-loop
 loop-again c =
-    let l = c.before.before.loop in
+    let l = c.before.before.loop-i in
     let a = c.before.before.before.args in
     record {
       inside = omega arith;
@@ -59,17 +59,17 @@ loop-again c =
       done = further a.at a.bytes.now a.out.now l.out l.i (omega arith) (omega arith) l.invariant.same l.invariant.done;
     }
 
-add-result : tie.Need-overflow-add-result invariant-loop decreases-loop
+add-result : tie.Need-overflow_add-result invariant-loop decreases-loop
 add-result c = search tests
 
-same_length : tie.Need-same-length invariant-loop decreases-loop
+same_length : tie.Need-shape_of-out invariant-loop decreases-loop
 same_length c = search tests
 
 returns : tie.Need-returns invariant-loop decreases-loop
-returns c = rw (take_all c.before.loop.i c.before.before.args.bytes.now (omega arith)) at c.before.loop.invariant.done
+returns c = rw (take_all c.before.loop-i.i c.before.before.args.bytes.now (omega arith)) at c.before.loop-i.invariant.done
 
-pub put-bytes-spec : {M : Type 1} → statement M
-put-bytes-spec =
+pub put_bytes_spec : {M : Type 1} → statement M
+put_bytes_spec =
     tie.close
     (tie.spec
     invariant-loop

@@ -19,10 +19,10 @@ record Holds (before : List ℕ) (at : ℕ) (numbers : List ℕ) (count : ℕ) (
   inside : i ≤ count
   part : PartWritten (number_lines count numbers) before at (21 * i) out place (number_lines (count - i) (drop i numbers))
 
-abbrev invariant-loop : tie.invariant-loop
+abbrev invariant-loop : tie.invariant-loop-i
 invariant-loop out₀ at numbers count place₀ i₀ out place i = Holds out₀ at numbers count out place i
 
-abbrev decreases-loop : tie.decreases-loop
+abbrev decreases-loop : tie.decreases-loop-i
 decreases-loop out₀ at numbers count place₀ i₀ out place i = count - i
 
 module _ (before : List ℕ) (at : ℕ) (numbers : List ℕ) (count : ℕ) (out : List ℕ) (place i : ℕ) (h : Holds before at numbers count out place i) where
@@ -37,41 +37,41 @@ module _ (before : List ℕ) (at : ℕ) (numbers : List ℕ) (count : ℕ) (out 
             (lines_more (count - (i + 1)) (count - i) i numbers (omega arith)) (field_short (get_or numbers i 0) line_feed) s p);
       }
 
-loop-holds : tie.Need-loop-init invariant-loop decreases-loop
+loop-holds : tie.Need-loop-i-init invariant-loop decreases-loop
 loop-holds c = record { inside = omega arith; part = rw sub-zero (none_written _ _ _) }
 
-mul-put-field : tie.Need-overflow-mul-put-field invariant-loop decreases-loop
+mul-put-field : tie.Need-offset_bounds-numbers-i invariant-loop decreases-loop
 mul-put-field c = search tests
 
-shared-slice-read-put-field : tie.Need-shared-slice-read-put-field invariant-loop decreases-loop
+shared-slice-read-put-field : tie.Need-bounds-numbers-i invariant-loop decreases-loop
 shared-slice-read-put-field c = search tests
 
-put-field-requires : tie.Need-put-field-requires invariant-loop decreases-loop
+put-field-requires : tie.Need-put_field-place-requires invariant-loop decreases-loop
 put-field-requires c κs =
     let l = c.before.before.before in
-    let w = l.loop.invariant.part in
+    let w = l.loop-i.invariant.part in
     omega (arith, w.few, w.same, w.held.ends, l.before.before.before.requires)
 
-add-i : tie.Need-overflow-add-i invariant-loop decreases-loop
+add-i : tie.Need-overflow_add-i invariant-loop decreases-loop
 add-i c = search tests
 
-loop-less : tie.Need-loop-smaller invariant-loop decreases-loop
+loop-less : tie.Need-loop-i-smaller invariant-loop decreases-loop
 loop-less c = search tests
 
-loop-again : tie.Need-loop-preserved invariant-loop decreases-loop
+loop-again : tie.Need-loop-i-preserved invariant-loop decreases-loop
 loop-again c =
     let p = c.before.before in
     let l = p.before.before.before.before in
-    further _ _ _ _ _ _ _ l.loop.invariant _ _ (omega arith) (omega (arith, l.before.before.before.requires)) p.put-field.auto.0 p.put-field.ensures
+    further _ _ _ _ _ _ _ l.loop-i.invariant _ _ (omega arith) (omega (arith, l.before.before.before.requires)) p.put_field-place.auto.0 p.put_field-place.ensures
 
-same_length : tie.Need-same-length invariant-loop decreases-loop
+same_length : tie.Need-shape_of-out invariant-loop decreases-loop
 same_length c = search tests
 
 returns : tie.Need-returns invariant-loop decreases-loop
-returns c = whole_written _ _ _ _ _ _ _ c.before.loop.invariant.part (lines_none _ _ (omega arith))
+returns c = whole_written _ _ _ _ _ _ _ c.before.loop-i.invariant.part (lines_none _ _ (omega arith))
 
-pub put-numbers-spec : {M : Type 1} → statement M
-put-numbers-spec =
+pub put_numbers_spec : {M : Type 1} → statement M
+put_numbers_spec =
     tie.close
     (tie.spec
     invariant-loop

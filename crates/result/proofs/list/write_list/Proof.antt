@@ -34,44 +34,44 @@ module _ (refusal count : ℕ) (numbers out : List ℕ) where
     unfolding list_written list_fits list_text
     refusal-alone e p = refused _ _ _ _ enough listed _ (number_lines count numbers) out after end e p
 
-returns : tie.Need-returns
+returns : tie.Need-returns-then-out-lt-LONGEST_REFUSAL
 returns c = too_short _ _ _ _ (omega arith)
 
-sub-if2 : tie.Need-overflow-sub-if2
+sub-if2 : tie.Need-overflow_sub-out
 sub-if2 c = search tests
 
-returns-2 : tie.Need-returns-2
+returns-2 : tie.Need-returns-then-out-count
 returns-2 c = too_short _ _ _ _ (omega arith)
 
-returns-3 : tie.Need-returns-3
+returns-3 : tie.Need-returns-then-numbers-count
 returns-3 c = too_few _ _ _ _ (omega arith) (omega arith)
 
-put-numbers-requires : tie.Need-put-numbers-requires
+put-numbers-requires : tie.Need-put_numbers-requires
 put-numbers-requires c κs = search tests
 
-same_length : tie.Need-same-length
+same_length : tie.Need-shape_of-out-then-refusal-eq0
 same_length c = search tests
 
-returns-4 : tie.Need-returns-4
+returns-4 : tie.Need-returns-then-refusal-eq0
 returns-4 c =
     let r = c.before.before in
     let t = r.before.before in
-    lines _ _ _ _ (omega (arith, t.before)) (omega (arith, t.before)) _ _ t.if4.true r.put-numbers.ensures
+    lines _ _ _ _ (omega (arith, t.before)) (omega (arith, t.before)) _ _ t.if-refusal-eq0.true r.put_numbers.ensures
 
-put-refusal-requires : tie.Need-put-refusal-requires
+put-refusal-requires : tie.Need-put_refusal-requires
 put-refusal-requires c κs = search tests
 
-same-length-2 : tie.Need-same-length-2
+same-length-2 : tie.Need-shape_of-out
 same-length-2 c = search tests
 
-returns-5 : tie.Need-returns-5
+returns-5 : tie.Need-returns
 returns-5 c =
     let r = c.before.before in
     let t = r.before.before in
-    refusal-alone _ _ _ _ (omega (arith, t.before)) (omega (arith, t.before)) _ _ t.if4.false r.put-refusal.ensures
+    refusal-alone _ _ _ _ (omega (arith, t.before)) (omega (arith, t.before)) _ _ t.if-refusal-eq0.false r.put_refusal.ensures
 
-pub write-list-spec : {M : Type 1} → statement M
-write-list-spec =
+pub write_list_spec : {M : Type 1} → statement M
+write_list_spec =
     tie.close
     (tie.spec
     returns

@@ -21,10 +21,10 @@ record Holds (before : List ℕ) (at n end : ℕ) (out : List ℕ) (place rest :
   text : number_text n ≡ last_digits (place - at) rest ++ behind
   held : out ≡ placed_at place behind before
 
-abbrev invariant-loop : tie.invariant-loop
+abbrev invariant-loop : tie.invariant-loop-place
 invariant-loop out₀ at n end place₀ rest₀ out place rest = Holds out₀ at n end out place rest
 
-abbrev decreases-loop : tie.decreases-loop
+abbrev decreases-loop : tie.decreases-loop-place
 decreases-loop out₀ at n end place₀ rest₀ out place rest = place
 
 module _ (before : List ℕ) (at n end : ℕ) (out : List ℕ) (place rest : ℕ) (h : Holds before at n end out place rest) where
@@ -49,17 +49,17 @@ module _ (before : List ℕ) (at n end : ℕ) (out : List ℕ) (place rest : ℕ
       let t : number_text n ≡ h.behind = h.text ∙ ap (λ (l : List ℕ). l ++ h.behind) (last_none (place - at) rest (omega arith)) in
       record { ends = e; holds = rw (t, ← p) h.held }
 
-digit-count-requires : tie.Need-digit-count-requires invariant-loop decreases-loop
+digit-count-requires : tie.Need-digit_count-requires invariant-loop decreases-loop
 digit-count-requires c κs = search tests
 
-add-end : tie.Need-overflow-add-end invariant-loop decreases-loop
-add-end c = omega (arith, c.digit-count.ensures, number_short c.before.before.args.n)
+add-end : tie.Need-overflow_add-end invariant-loop decreases-loop
+add-end c = omega (arith, c.digit_count.ensures, number_short c.before.before.args.n)
 
-loop-holds : tie.Need-loop-init invariant-loop decreases-loop
+loop-holds : tie.Need-loop-place-init invariant-loop decreases-loop
 loop-holds c =
     let a = c.before.before.args in
-    let e = c.digit-count.ensures in
-    let k : a.at + c.digit-count.result - a.at ≡ length (number_text a.n) = omega (arith, e) in
+    let e = c.digit_count.ensures in
+    let k : a.at + c.digit_count.result - a.at ≡ length (number_text a.n) = omega (arith, e) in
     record {
       behind = [];
       starts = omega arith;
@@ -70,32 +70,32 @@ loop-holds c =
       held = (placed_none _ _).holds;
     }
 
-sub-place : tie.Need-overflow-sub-place invariant-loop decreases-loop
+sub-place : tie.Need-overflow_sub-place invariant-loop decreases-loop
 sub-place c = search tests
 
-cast-out : tie.Need-overflow-cast-out invariant-loop decreases-loop
+cast-out : tie.Need-overflow_cast-out invariant-loop decreases-loop
 cast-out c = search tests
 
-add-out : tie.Need-overflow-add-out invariant-loop decreases-loop
+add-out : tie.Need-overflow_add-out invariant-loop decreases-loop
 add-out c = search tests
 
-slice-write-out : tie.Need-slice-write-out invariant-loop decreases-loop
+slice-write-out : tie.Need-bounds-out-place invariant-loop decreases-loop
 slice-write-out c = search tests
 
-loop-less : tie.Need-loop-smaller invariant-loop decreases-loop
+loop-less : tie.Need-loop-place-smaller invariant-loop decreases-loop
 loop-less c = omega arith
 
-loop-again : tie.Need-loop-preserved invariant-loop decreases-loop
-loop-again c = further _ _ _ _ _ _ _ c.before.loop.invariant _ c.loop-test.true (omega arith)
+loop-again : tie.Need-loop-place-preserved invariant-loop decreases-loop
+loop-again c = further _ _ _ _ _ _ _ c.before.loop-place.invariant _ c.loop-place-test.true (omega arith)
 
-same_length : tie.Need-same-length invariant-loop decreases-loop
+same_length : tie.Need-shape_of-out invariant-loop decreases-loop
 same_length c = search tests
 
 returns : tie.Need-returns invariant-loop decreases-loop
-returns c = whole _ _ _ _ _ _ _ c.before.loop.invariant c.loop-test.false (omega (arith, c.before.before.digit-count.ensures))
+returns c = whole _ _ _ _ _ _ _ c.before.loop-place.invariant c.loop-place-test.false (omega (arith, c.before.before.digit_count.ensures))
 
-pub put-number-spec : {M : Type 1} → statement M
-put-number-spec =
+pub put_number_spec : {M : Type 1} → statement M
+put_number_spec =
     tie.close
     (tie.spec
     invariant-loop

@@ -9,22 +9,22 @@ use Rattle.result.proofs.refusal.put_refusal.Tie as tie
 slice-aggregate-put-bytes : tie.Need-slice-aggregate-put-bytes
 slice-aggregate-put-bytes c = search tests
 
-put-bytes-requires : tie.Need-put-bytes-requires
+put-bytes-requires : tie.Need-put_bytes-start-requires
 put-bytes-requires c κs = search tests
 
-put-field-requires : tie.Need-put-field-requires
+put-field-requires : tie.Need-put_field-requires
 put-field-requires c κs = search tests
 
-same_length : tie.Need-same-length
+same_length : tie.Need-shape_of-out
 same_length c = search tests
 
 returns : tie.Need-returns
 returns c =
     let f = c.before.before in
     let h = f.before.before.before.before in
-    placed_joined 0 refused_heading _ _ _ _ _ _ (omega arith) h.put-bytes.ensures f.put-field.ensures
+    placed_joined 0 refused_heading _ _ _ _ _ _ (omega arith) h.put_bytes-start.ensures f.put_field.ensures
 
-pub put-refusal-spec : {M : Type 1} → statement M
-put-refusal-spec =
+pub put_refusal_spec : {M : Type 1} → statement M
+put_refusal_spec =
     tie.close
     (tie.spec slice-aggregate-put-bytes put-bytes-requires put-field-requires same_length returns)

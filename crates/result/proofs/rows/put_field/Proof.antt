@@ -6,15 +6,15 @@ use Rattle.base.proofs.Writing.{placed_joined}
 use Rattle.result.proofs.rows.put_field.Statement.{statement}
 use Rattle.result.proofs.rows.put_field.Tie as tie
 
-put-number-requires : tie.Need-put-number-requires
+put-number-requires : tie.Need-put_number-end-requires
 put-number-requires c κs = search tests
 
-put-byte-requires : tie.Need-put-byte-requires
+put-byte-requires : tie.Need-put_byte-requires
 put-byte-requires c κs =
     let n = c.before.before.before in
-    omega (arith, n.put-number.ensures.ends, n.put-number.auto.0, number_short n.before.before.before.args.n, n.before.before.before.requires)
+    omega (arith, n.put_number-end.ensures.ends, n.put_number-end.auto.0, number_short n.before.before.before.args.n, n.before.before.before.requires)
 
-same_length : tie.Need-same-length
+same_length : tie.Need-shape_of-out
 same_length c = search tests
 
 returns : tie.Need-returns
@@ -22,7 +22,7 @@ returns c =
     let b = c.before.before in
     let n = b.before.before.before.before in
     let s = n.before.before.before in
-    placed_joined s.args.at _ _ _ _ _ _ _ (omega (arith, s.requires)) n.put-number.ensures b.put_byte.ensures
+    placed_joined s.args.at _ _ _ _ _ _ _ (omega (arith, s.requires)) n.put_number-end.ensures b.put_byte.ensures
 
-pub put-field-spec : {M : Type 1} → statement M
-put-field-spec = tie.close (tie.spec put-number-requires put-byte-requires same_length returns)
+pub put_field_spec : {M : Type 1} → statement M
+put_field_spec = tie.close (tie.spec put-number-requires put-byte-requires same_length returns)

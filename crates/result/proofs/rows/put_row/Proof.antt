@@ -10,69 +10,69 @@ use Rattle.result.proofs.rows.put_row.Statement.{statement}
 use Rattle.result.proofs.rows.put_row.Tie as tie
 
 -- room for the fields that follow
-room1 : (c : tie.After-put-field) → c.put-field.result + 63 ≤ length c.put-field.new.0
+room1 : (c : tie.After-put_field-second) → c.put_field-second.result + 63 ≤ length c.put_field-second.new.0
 room1 c =
     let s = c.before.before.before.before.before in
-    omega (arith, s.requires, c.put-field.ensures.ends, c.put-field.auto.0, field_short (get_or s.args.results.now s.args.first 0) tab)
+    omega (arith, s.requires, c.put_field-second.ensures.ends, c.put_field-second.auto.0, field_short (get_or s.args.results.now s.args.first 0) tab)
 
-room2 : (c : tie.After-put-field2) → c.put-field2.result + 42 ≤ length c.put-field2.new.0
+room2 : (c : tie.After-put_field-third) → c.put_field-third.result + 42 ≤ length c.put_field-third.new.0
 room2 c =
     let f = c.before.before.before.before.before in
     let s = f.before.before.before.before.before in
-    omega (arith, room1 f, c.put-field2.ensures.ends, c.put-field2.auto.0, field_short (get_or s.args.results.now (s.args.first + 1) 0) tab)
+    omega (arith, room1 f, c.put_field-third.ensures.ends, c.put_field-third.auto.0, field_short (get_or s.args.results.now (s.args.first + 1) 0) tab)
 
-room3 : (c : tie.After-put-field3) → c.put-field3.result + 21 ≤ length c.put-field3.new.0
+room3 : (c : tie.After-put_field-fourth) → c.put_field-fourth.result + 21 ≤ length c.put_field-fourth.new.0
 room3 c =
     let f = c.before.before.before.before.before in
     let s = f.before.before.before.before.before.before.before.before.before.before in
-    omega (arith, room2 f, c.put-field3.ensures.ends, c.put-field3.auto.0, field_short (get_or s.args.results.now (s.args.first + 2) 0) tab)
+    omega (arith, room2 f, c.put_field-fourth.ensures.ends, c.put_field-fourth.auto.0, field_short (get_or s.args.results.now (s.args.first + 2) 0) tab)
 
-mul-put-field : tie.Need-overflow-mul-put-field
+mul-put-field : tie.Need-offset_bounds-results-first
 mul-put-field c = search tests
 
-shared-slice-read-put-field : tie.Need-shared-slice-read-put-field
+shared-slice-read-put-field : tie.Need-bounds-results-first
 shared-slice-read-put-field c = search tests
 
-put-field-requires : tie.Need-put-field-requires
+put-field-requires : tie.Need-put_field-second-requires
 put-field-requires c κs = search tests
 
-add-put-field : tie.Need-overflow-add-put-field
+add-put-field : tie.Need-overflow_add-first
 add-put-field c = search tests
 
-mul-put-field-2 : tie.Need-overflow-mul-put-field-2
+mul-put-field-2 : tie.Need-offset_bounds-results-first-2
 mul-put-field-2 c = search tests
 
-shared-slice-read-put-field-2 : tie.Need-shared-slice-read-put-field-2
+shared-slice-read-put-field-2 : tie.Need-bounds-results-first-2
 shared-slice-read-put-field-2 c = search tests
 
-put-field-requires-2 : tie.Need-put-field-requires-2
+put-field-requires-2 : tie.Need-put_field-third-requires
 put-field-requires-2 c κs = omega (arith, room1 c.before.before.before.before)
 
-add-put-field-2 : tie.Need-overflow-add-put-field-2
+add-put-field-2 : tie.Need-overflow_add-first-2
 add-put-field-2 c = search tests
 
-mul-put-field-3 : tie.Need-overflow-mul-put-field-3
+mul-put-field-3 : tie.Need-offset_bounds-results-first-3
 mul-put-field-3 c = search tests
 
-shared-slice-read-put-field-3 : tie.Need-shared-slice-read-put-field-3
+shared-slice-read-put-field-3 : tie.Need-bounds-results-first-3
 shared-slice-read-put-field-3 c = search tests
 
-put-field-requires-3 : tie.Need-put-field-requires-3
+put-field-requires-3 : tie.Need-put_field-fourth-requires
 put-field-requires-3 c κs = omega (arith, room2 c.before.before.before.before)
 
-add-put-field-3 : tie.Need-overflow-add-put-field-3
+add-put-field-3 : tie.Need-overflow_add-first-3
 add-put-field-3 c = search tests
 
-mul-put-field-4 : tie.Need-overflow-mul-put-field-4
+mul-put-field-4 : tie.Need-offset_bounds-results-first-4
 mul-put-field-4 c = search tests
 
-shared-slice-read-put-field-4 : tie.Need-shared-slice-read-put-field-4
+shared-slice-read-put-field-4 : tie.Need-bounds-results-first-4
 shared-slice-read-put-field-4 c = search tests
 
-put-field-requires-4 : tie.Need-put-field-requires-4
+put-field-requires-4 : tie.Need-put_field-requires
 put-field-requires-4 c κs = room3 c.before.before.before.before
 
-same_length : tie.Need-same-length
+same_length : tie.Need-shape_of-out
 same_length c = search tests
 
 returns : tie.Need-returns
@@ -86,12 +86,12 @@ returns c =
     rw row_fields
     (joined _ _ _ _ _ _ _ (omega (arith, s.requires))
     (joined _ _ _ _ _ _ _ (omega (arith, s.requires))
-    (joined _ _ _ _ _ _ _ (omega (arith, s.requires)) f1.put-field.ensures f2.put-field2.ensures)
-    f3.put-field3.ensures)
-    f4.put-field4.ensures)
+    (joined _ _ _ _ _ _ _ (omega (arith, s.requires)) f1.put_field-second.ensures f2.put_field-third.ensures)
+    f3.put_field-fourth.ensures)
+    f4.put_field.ensures)
 
-pub put-row-spec : {M : Type 1} → statement M
-put-row-spec =
+pub put_row_spec : {M : Type 1} → statement M
+put_row_spec =
     tie.close
     (tie.spec
     mul-put-field

@@ -18,10 +18,10 @@ record Holds (before : List ℕ) (at : ℕ) (results : List ℕ) (deals : ℕ) (
   four : first ≡ 4 * deal
   part : PartWritten (rows deals results) before at (84 * deal) out place (rows (deals - deal) (drop first results))
 
-abbrev invariant-loop : tie.invariant-loop
+abbrev invariant-loop : tie.invariant-loop-deal
 invariant-loop out₀ at results deals place₀ first₀ deal₀ out place first deal = Holds out₀ at results deals out place first deal
 
-abbrev decreases-loop : tie.decreases-loop
+abbrev decreases-loop : tie.decreases-loop-deal
 decreases-loop out₀ at results deals place₀ first₀ deal₀ out place first deal = deals - deal
 
 module _ (before : List ℕ) (at : ℕ) (results : List ℕ) (deals : ℕ) (out : List ℕ) (place first deal : ℕ) (h : Holds before at results deals out place first deal) where
@@ -41,40 +41,40 @@ module _ (before : List ℕ) (at : ℕ) (results : List ℕ) (deals : ℕ) (out 
             (rows_more (deals - (deal + 1)) (deals - deal) first results (omega arith)) (row_short _ _ _ _) s p);
       }
 
-loop-holds : tie.Need-loop-init invariant-loop decreases-loop
+loop-holds : tie.Need-loop-deal-init invariant-loop decreases-loop
 loop-holds c = record { inside = omega arith; four = refl; part = rw sub-zero (none_written _ _ _) }
 
-put-row-requires : tie.Need-put-row-requires invariant-loop decreases-loop
+put-row-requires : tie.Need-put_row-place-requires invariant-loop decreases-loop
 put-row-requires c κs =
-    let i = c.before.before.loop.invariant in
+    let i = c.before.before.loop-deal.invariant in
     let w = i.part in
     omega (arith, i.four, w.few, w.same, w.held.ends, c.before.before.before.before.before.requires)
 
-add-first : tie.Need-overflow-add-first invariant-loop decreases-loop
+add-first : tie.Need-overflow_add-first invariant-loop decreases-loop
 add-first c =
     let l = c.before.before.before.before.before in
-    omega (arith, l.loop.invariant.four, l.before.before.before.requires)
+    omega (arith, l.loop-deal.invariant.four, l.before.before.before.requires)
 
-add-deal : tie.Need-overflow-add-deal invariant-loop decreases-loop
+add-deal : tie.Need-overflow_add-deal invariant-loop decreases-loop
 add-deal c = search tests
 
-loop-less : tie.Need-loop-smaller invariant-loop decreases-loop
+loop-less : tie.Need-loop-deal-smaller invariant-loop decreases-loop
 loop-less c = search tests
 
-loop-again : tie.Need-loop-preserved invariant-loop decreases-loop
+loop-again : tie.Need-loop-deal-preserved invariant-loop decreases-loop
 loop-again c =
     let p = c.before.before in
     let l = p.before.before.before in
-    further _ _ _ _ _ _ _ _ l.loop.invariant _ _ _ (omega arith) (omega (arith, l.before.before.before.requires)) (omega arith) p.put-row.auto.0 p.put-row.ensures
+    further _ _ _ _ _ _ _ _ l.loop-deal.invariant _ _ _ (omega arith) (omega (arith, l.before.before.before.requires)) (omega arith) p.put_row-place.auto.0 p.put_row-place.ensures
 
-same_length : tie.Need-same-length invariant-loop decreases-loop
+same_length : tie.Need-shape_of-out invariant-loop decreases-loop
 same_length c = search tests
 
 returns : tie.Need-returns invariant-loop decreases-loop
-returns c = whole_written _ _ _ _ _ _ _ c.before.loop.invariant.part (rows_none _ _ (omega arith))
+returns c = whole_written _ _ _ _ _ _ _ c.before.loop-deal.invariant.part (rows_none _ _ (omega arith))
 
-pub put-rows-spec : {M : Type 1} → statement M
-put-rows-spec =
+pub put_rows_spec : {M : Type 1} → statement M
+put_rows_spec =
     tie.close
     (tie.spec
     invariant-loop

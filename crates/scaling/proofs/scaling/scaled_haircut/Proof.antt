@@ -70,9 +70,9 @@ loop-again : tie.Need-loop-width-preserved invariant-loop decreases-loop
 loop-again c =
     let l = c.before.before.loop-width in
     ⊎_elim
-    (λ w. rw w.1 (up _ l.low l.width l.invariant (omega arith) (omega arith)))
-    (λ w. rw w.1 (down _ l.low l.width l.invariant (omega arith) (omega arith)))
-    c.if-middle-target.branch
+    (λ w. rw w.low-is (up _ l.low l.width l.invariant (omega arith) (omega arith)))
+    (λ w. rw w.low-is (down _ l.low l.width l.invariant (omega arith) (omega arith)))
+    c.if-middle-target.branch-raw
 
 add-result : tie.Need-overflow_add-result invariant-loop decreases-loop
 add-result c = omega arith

@@ -84,7 +84,7 @@ returns-16 c =
     line_right _ 14 _ _ (omega arith) (percents _ 30 m.before.if-percents-haircut.false m.in-30.is) m.before.before.stored_figures-table.ensures c.line-in-30.ensures
 
 returns-17 : tie.Need-returns-in_default
-returns-17 c = no_line _ (other_percents _ c.before.if-percents-haircut.false c.in_default.rest)
+returns-17 c = no_line _ (other_percents _ c.before.if-percents-haircut.false c.in_default.in_default-own.rest)
 
 -- a line is copied and handed on, in fifteen places
 pub stored_line_spec : {M : Type 1} → statement M

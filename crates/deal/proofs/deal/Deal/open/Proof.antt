@@ -1,7 +1,7 @@
 -- `deal::deal::Deal::open` meets its contract. Assumes nothing.
 use mathlib.Core.Path.{sym, ◌∙◌}
 use Rattle.base.proofs.Choice.{if_true, if_false}
-use Rattle.base.proofs.Tests.{told_not_true, told_not_false}
+use Rattle.base.proofs.Tests.{told_true, told_false}
 use Rattle.deal.specs.Opening.{opened_deal}
 use Rattle.deal.proofs.Answers.{agreed}
 use Rattle.deal.proofs.deal.Deal.open.Statement.{statement}
@@ -23,13 +23,13 @@ returns : tie.Need-returns-then-not-is_accepted
 unfolding opened_deal
 returns c =
     let a = c.before.before in
-    (a.before.check-answer.ensures, c.without_protection-deal.ensures ∙ sym (if_false _ _ _ (told_not_false _ _ (agreed a.is_accepted.ensures a.before.check-answer.ensures) c.before.if-not-is_accepted.true)))
+    (a.before.check-answer.ensures, c.without_protection-deal.ensures ∙ sym (if_false _ _ _ (told_false _ _ (agreed a.is_accepted.ensures a.before.check-answer.ensures) c.before.if-not-is_accepted.true)))
 
 returns-2 : tie.Need-returns
 unfolding opened_deal
 returns-2 c =
     let a = c.before.before in
-    (a.before.check-answer.ensures, c.without_protection-deal-2.ensures ∙ sym (if_true _ _ _ (told_not_true _ _ (agreed a.is_accepted.ensures a.before.check-answer.ensures) c.before.if-not-is_accepted.false)))
+    (a.before.check-answer.ensures, c.without_protection-deal-2.ensures ∙ sym (if_true _ _ _ (told_true _ _ (agreed a.is_accepted.ensures a.before.check-answer.ensures) c.before.if-not-is_accepted.false)))
 
 pub open_spec : {M : Type 1} → statement M
 open_spec =

@@ -4,7 +4,7 @@ use mathlib.Core.Path.{◌≡◌, sym}
 use native.Mathlib.Omega.{arith}
 use lib.ListN.{length}
 use Rattle.base.proofs.Arrays.{unmapped}
-use Rattle.base.proofs.Tests.{tests, told_not_true, told_not_false}
+use Rattle.base.proofs.Tests.{tests, told_true, told_false}
 use Rattle.deal.specs.Guarantees.{guarantee_refusal, guarantee_list_allowed}
 use Rattle.deal.proofs.Answers.{agreed}
 use Rattle.deal.proofs.Lists.{PassedTo, all_passed, none_passed, one_passed, one_refused, too_many}
@@ -22,7 +22,7 @@ unfolding guarantee_list_allowed
 returns c = sym (too_many guarantee_refusal _ _ c.if-count-gt-GUARANTEE_LIMIT.true)
 
 loop-holds : tie.Need-loop-i-init invariant-loop decreases-loop
-loop-holds c = let l = c.before.before.args.self in none_passed guarantee_refusal l.items-1 l.count
+loop-holds c = let l = c.before.before.args.self in none_passed guarantee_refusal l.items l.count
 
 mul-item : tie.Need-offset_bounds-items-i invariant-loop decreases-loop
 mul-item c = search tests
@@ -36,7 +36,7 @@ check-requires c κs = tt
 is-accepted-requires : tie.Need-is_accepted-requires invariant-loop decreases-loop
 is-accepted-requires c κs = tt
 
-long : (c : tie.Start invariant-loop decreases-loop) → length c.args.self.items-1 ≡ 16
+long : (c : tie.Start invariant-loop decreases-loop) → length c.args.self.items ≡ 16
 long c = search (unmapped, c.well_formed)
 
 returns-2 : tie.Need-returns-then-not-is_accepted invariant-loop decreases-loop
@@ -44,7 +44,7 @@ unfolding guarantee_list_allowed
 returns-2 c =
     let i = c.before.before.before.before.before in
     let l = long i.before.before.before in
-    sym (one_refused guarantee_refusal _ _ i.loop-i.i _ i.before.if-count-gt-GUARANTEE_LIMIT.false c.before.before.before.before.loop-i-test.true (omega (arith, l)) (told_not_false _ _ (agreed c.before.is_accepted.ensures c.before.before.check-answer.ensures) c.if-not-is_accepted.true))
+    sym (one_refused guarantee_refusal _ _ i.loop-i.i _ i.before.if-count-gt-GUARANTEE_LIMIT.false c.before.before.before.before.loop-i-test.true (omega (arith, l)) (told_false _ _ (agreed c.before.is_accepted.ensures c.before.before.check-answer.ensures) c.if-not-is_accepted.true))
 
 add-i : tie.Need-overflow_add-i invariant-loop decreases-loop
 add-i c = search tests
@@ -55,7 +55,7 @@ loop-less c = search tests
 loop-again : tie.Need-loop-i-preserved invariant-loop decreases-loop
 loop-again c =
     let i = c.before.before.before.before.before in
-    one_passed guarantee_refusal _ _ i.loop-i.i _ c.before.before.before.before.loop-i-test.true i.loop-i.invariant (told_not_true _ _ (agreed c.before.is_accepted.ensures c.before.before.check-answer.ensures) c.if-not-is_accepted.false)
+    one_passed guarantee_refusal _ _ i.loop-i.i _ c.before.before.before.before.loop-i-test.true i.loop-i.invariant (told_true _ _ (agreed c.before.is_accepted.ensures c.before.before.check-answer.ensures) c.if-not-is_accepted.false)
 
 returns-3 : tie.Need-returns invariant-loop decreases-loop
 unfolding guarantee_list_allowed

@@ -17,14 +17,12 @@ enum-known-stored c = search tests
 
 over-requires : tie.Need-over-requires
 over-requires c κs =
-    let f = c.before.before.before in
-    told_true _ _ f.before.before.is_daily.ensures f.before.if-is_daily.true
+    told_true _ _ c.is_daily.ensures c.if-is_daily.true
 
 returns : tie.Need-returns-in-Figures
 returns c =
-    let f = c.before.before.before.before in
-    let line = rw c.before.before.stored-1.given.1 at f.stored_line_lem.ensures in
-    c.over.ensures ∙ taken _ _ (told_true _ _ f.before.before.is_daily.ensures f.before.if-is_daily.true) line
+    let line = rw c.in-Figures.is at c.stored_line-stored.ensures in
+    c.over.ensures ∙ taken _ _ (told_true _ _ c.is_daily.ensures c.if-is_daily.true) line
 
 enum_told : tie.Need-enum_told-1
 enum_told c = search tests
@@ -37,9 +35,9 @@ work-out-requires c κs =
       (
         p.1,
         ⊎_elim
-            (λ s. and_second _ _ (told_true _ _ d s.0.taken) (rw s.3.given.1 at (has_figures _ s.1.ensures)))
-            (λ s. and_first _ _ (told_false _ _ d s.left))
-            c.if-is_daily.branch,
+            (λ s. and_second _ _ (told_true _ _ d s.if-is_daily.true) (rw s.in_default.is at (has_figures _ s.stored_line-stored.ensures)))
+            (λ s. and_first _ _ (told_false _ _ d s.if-is_daily.false))
+            c.if-is_daily.branch-raw,
       ),
     )
 
