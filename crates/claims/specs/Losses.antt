@@ -49,13 +49,13 @@ AddsUp o amount =
 
 -- a place by its ground's number, its valuation and the amount left out: what an outcome says, what a valued item has, and what one that is left out has
 abbrev pub as_place : Outcome → Place
-as_place o = record { ground = outcome_ground o; valuation = outcome_valuation o; left_out = outcome_left_out o }
+as_place o = record { ground' = outcome_ground o; valuation = outcome_valuation o; left_out = outcome_left_out o }
 
 abbrev pub valued : Valuation → Place
-valued v = record { ground = 0; valuation = v; left_out = 0 }
+valued v = record { ground' = 0; valuation = v; left_out = 0 }
 
 abbrev pub left_out : ℕ → ℕ → Place
-left_out ground amount = record { ground = ground; valuation = no_valuation; left_out = amount }
+left_out ground' amount = record { ground' = ground'; valuation = no_valuation; left_out = amount }
 
 -- each loss is what its step took, of what the step before it left: the cut leaves so much of the amount, these haircuts of that, and the maturity step
 -- the value
@@ -112,13 +112,13 @@ pub record Losses : Type 0 where
       map (λ r. as_place r.outcome) (report_of d).collateral
       ≡ in_places list_limit (valued no_valuation)
       (if accepted d
-      then map (λ c. let ground = collateral_ground (table_for d.terms) d.terms c in if eqb ground 0 then valued (collateral_valuation (table_for d.terms) d.terms c) else left_out ground c.amount) (view_of d).collateral
+      then map (λ c. let ground' = collateral_ground (table_for d.terms) d.terms c in if eqb ground' 0 then valued (collateral_valuation (table_for d.terms) d.terms c) else left_out ground' c.amount) (view_of d).collateral
       else [])
   pub guarantees_reported : (d : Deal) →
       map (λ r. as_place r.outcome) (report_of d).guarantees
       ≡ in_places list_limit (valued no_valuation)
       (if accepted d
-      then map (λ g. let ground = guarantee_ground (table_for d.terms) d.terms g in if eqb ground 0 then valued (guarantee_valuation d.terms g) else left_out ground g.amount) (view_of d).guarantees
+      then map (λ g. let ground' = guarantee_ground (table_for d.terms) d.terms g in if eqb ground' 0 then valued (guarantee_valuation d.terms g) else left_out ground' g.amount) (view_of d).guarantees
       else [])
   -- nothing of collateral is cut; of a guarantee or swap, what is not hedged
   pub collateral_steps : (table : Table) (t : Terms) (c : Collateral) →

@@ -42,13 +42,13 @@ reduced r = record { outcome = as_before r.outcome; portion = r.portion }
 value_stays : (o : Outcome) → outcome_value o ≡ value_before (as_before o)
 unfolding outcome_valuation value_before as_before
 value_stays (Valued v) = refl
-value_stays (LeftOut ground amount) = refl
+value_stays (LeftOut ground' amount) = refl
 
-outcome_stays : (ground amount : ℕ) (v : Valuation) → as_before (outcome_for ground amount v) ≡ outcome_for_before ground v.value
+outcome_stays : (ground' amount : ℕ) (v : Valuation) → as_before (outcome_for ground' amount v) ≡ outcome_for_before ground' v.value
 unfolding outcome_for outcome_for_before as_before if◌then◌else◌
-outcome_stays ground amount v = go (eqb ground 0)
+outcome_stays ground' amount v = go (eqb ground' 0)
   where
-    go : (b : Bool) → as_before (if b then Valued v else LeftOut (ground_with ground) amount) ≡ (if b then valued v.value else left_out (ground_with ground))
+    go : (b : Bool) → as_before (if b then Valued v else LeftOut (ground_with ground') amount) ≡ (if b then valued v.value else left_out (ground_with ground'))
     go true = refl
     go false = refl
 

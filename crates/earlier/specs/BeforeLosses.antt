@@ -41,10 +41,10 @@ pub data OutcomeBefore : Type 0 where
 
 unfoldable pub value_before : OutcomeBefore → ℕ
 value_before (valued value) = value
-value_before (left_out ground) = 0
+value_before (left_out ground') = 0
 
 unfoldable pub outcome_for_before : ℕ → ℕ → OutcomeBefore
-outcome_for_before ground value = if eqb ground 0 then valued value else left_out (ground_with ground)
+outcome_for_before ground' value = if eqb ground' 0 then valued value else left_out (ground_with ground')
 
 -- Items
 
@@ -121,7 +121,7 @@ report_before d = if accepted d then full_report_before (table_for d.terms) (vie
 
 unfoldable pub as_before : Outcome → OutcomeBefore
 as_before (Valued valuation) = valued valuation.value
-as_before (LeftOut ground amount) = left_out ground
+as_before (LeftOut ground' amount) = left_out ground'
 
 abbrev pub report_as_before : Report → ReportBefore
 report_as_before r = record {

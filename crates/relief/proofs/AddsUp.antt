@@ -45,22 +45,22 @@ guarantee_adds_up t g = adds_up g.amount _ _ g.residual t.residual (hedged_le t 
 abbrev pub accounted : Place → ℕ
 accounted p = value_and_losses p.valuation + p.left_out
 
-place_adds_up : (ground amount : ℕ) (v : Valuation) → value_and_losses v ≡ amount → accounted (place_with ground amount v) ≡ amount
+place_adds_up : (ground' amount : ℕ) (v : Valuation) → value_and_losses v ≡ amount → accounted (place_with ground' amount v) ≡ amount
 unfolding place_with value_and_losses
-place_adds_up ground amount v all =
-    either (λ (p : Place). accounted p ≡ amount) (eqb ground 0) (λ e. omega (arith, all)) (λ e. omega arith)
+place_adds_up ground' amount v all =
+    either (λ (p : Place). accounted p ≡ amount) (eqb ground' 0) (λ e. omega (arith, all)) (λ e. omega arith)
 
 -- either a value and losses that add up to the amount, or the amount left out
 abbrev pub PlaceAddsUp : Place → ℕ → Type 0
 PlaceAddsUp p amount =
-    (p.ground ≡ 0 → (value_and_losses p.valuation ≡ amount) × (p.left_out ≡ 0)) × (p.ground ≢ 0 → (p.left_out ≡ amount) × (p.valuation ≡ no_valuation))
+    (p.ground' ≡ 0 → (value_and_losses p.valuation ≡ amount) × (p.left_out ≡ 0)) × (p.ground' ≢ 0 → (p.left_out ≡ amount) × (p.valuation ≡ no_valuation))
 
-place_either : (ground amount : ℕ) (v : Valuation) → value_and_losses v ≡ amount → PlaceAddsUp (place_with ground amount v) amount
+place_either : (ground' amount : ℕ) (v : Valuation) → value_and_losses v ≡ amount → PlaceAddsUp (place_with ground' amount v) amount
 unfolding place_with
-place_either ground amount v all =
-    either (λ (p : Place). PlaceAddsUp p amount) (eqb ground 0)
+place_either ground' amount v all =
+    either (λ (p : Place). PlaceAddsUp p amount) (eqb ground' 0)
     (λ e. (λ z. (all, refl), λ n. absurd (n refl)))
-    (λ e. (λ z. absurd (eqb-false ground 0 e z), λ n. (refl, refl)))
+    (λ e. (λ z. absurd (eqb-false ground' 0 e z), λ n. (refl, refl)))
 
 module _ (table : Table) (t : Terms) where
   pub collateral_place_adds_up : (c : Collateral) → PlaceAddsUp (place_of (collateral_outcome table t c)) c.amount

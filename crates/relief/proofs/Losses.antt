@@ -16,7 +16,7 @@ use Rattle.relief.proofs.Computed.{computed}
 
 -- ground; value; losses by haircut, maturity and cut; the amount left out
 abbrev numbers : Place → List ℕ
-numbers p = let v = p.valuation in p.ground ∷ v.value ∷ v.haircut_loss ∷ v.maturity_loss ∷ v.cut_loss ∷ p.left_out ∷ []
+numbers p = let v = p.valuation in p.ground' ∷ v.value ∷ v.haircut_loss ∷ v.maturity_loss ∷ v.cut_loss ∷ p.left_out ∷ []
 
 -- secured lending in cash to a party of this class and step, for 1,800 days
 abbrev loan : ℕ → ℕ → Terms

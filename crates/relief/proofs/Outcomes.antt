@@ -22,18 +22,18 @@ use Rattle.relief.proofs.Losses.{collateral_places_lem, guarantee_places_lem}
 
 -- the ground with this number has this number
 abbrev pub Known : ℕ → Type 0
-Known ground = ground_number (ground_with ground) ≡ ground
+Known ground' = ground_number (ground_with ground') ≡ ground'
 
 -- an outcome by the paper's numbers, where its ground is 0 or a ground's number
-pub place_for : (ground amount : ℕ) (v : Valuation) → (eqb ground 0 ≡ false → Known ground) → place_of (outcome_for ground amount v) ≡ place_with ground amount v
+pub place_for : (ground' amount : ℕ) (v : Valuation) → (eqb ground' 0 ≡ false → Known ground') → place_of (outcome_for ground' amount v) ≡ place_with ground' amount v
 unfolding outcome_for outcome_ground outcome_valuation outcome_left_out place_with if◌then◌else◌
-place_for ground amount v = go (eqb ground 0)
+place_for ground' amount v = go (eqb ground' 0)
   where
-    go : (b : Bool) → (b ≡ false → Known ground) →
-        place_of (if b then Valued v else LeftOut (ground_with ground) amount)
-        ≡ (if b then record { ground = 0; valuation = v; left_out = 0 } else record { ground = ground; valuation = no_valuation; left_out = amount })
+    go : (b : Bool) → (b ≡ false → Known ground') →
+        place_of (if b then Valued v else LeftOut (ground_with ground') amount)
+        ≡ (if b then record { ground' = 0; valuation = v; left_out = 0 } else record { ground' = ground'; valuation = no_valuation; left_out = amount })
     go true known = refl
-    go false known = λ i. record { ground = known refl i; valuation = no_valuation; left_out = amount }
+    go false known = λ i. record { ground' = known refl i; valuation = no_valuation; left_out = amount }
 
 -- every test is a ground for leaving the item out, and has its number
 pub record LeaveOut (a : ℕ) (v : Valuation) (ts : List (Test ℕ)) : Type 0 where

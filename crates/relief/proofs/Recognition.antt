@@ -23,9 +23,9 @@ abbrev pub ◌also◌ : {A B : Type 0} → A → B → A × B
 a also b = (a, b)
 
 -- a place has the ground it is given
-place_ground : (ground amount : ℕ) (v : Valuation) → (place_with ground amount v).ground ≡ ground
+place_ground : (ground' amount : ℕ) (v : Valuation) → (place_with ground' amount v).ground' ≡ ground'
 unfolding place_with
-place_ground ground amount v = either (λ (p : Place). p.ground ≡ ground) (eqb ground 0) (λ e. sym (eqb-true ground 0 e)) (λ e. refl)
+place_ground ground' amount v = either (λ (p : Place). p.ground' ≡ ground') (eqb ground' 0) (λ e. sym (eqb-true ground' 0 e)) (λ e. refl)
 
 module _ (table : Table) (t : Terms) where
   pub collateral_leaves : (a : ℕ) (v : Valuation) (c : Collateral) → LeaveOut a v (collateral_grounds table t c)
@@ -53,7 +53,7 @@ module _ (table : Table) (t : Terms) where
 
   -- and its ground
   pub collateral_number : (c : Collateral) → outcome_ground (collateral_outcome table t c) ≡ collateral_ground table t c
-  collateral_number c = ap (λ p. p.ground) (collateral_place c) ∙ place_ground _ _ _
+  collateral_number c = ap (λ p. p.ground') (collateral_place c) ∙ place_ground _ _ _
 
   pub guarantee_number : (g : Guarantee) → outcome_ground (guarantee_outcome table t g) ≡ guarantee_ground table t g
-  guarantee_number g = ap (λ p. p.ground) (guarantee_place g) ∙ place_ground _ _ _
+  guarantee_number g = ap (λ p. p.ground') (guarantee_place g) ∙ place_ground _ _ _

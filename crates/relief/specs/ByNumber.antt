@@ -17,23 +17,23 @@ use Rattle.relief.specs.Guarantees.{guarantee_ground, guarantee_valuation}
 
 -- a place: its ground's number, 0 for none; its value and losses; and the amount left out. (A guarantee's portion is a number of the report already)
 pub record Place : Type 0 where
-  pub ground : ℕ
+  pub ground' : ℕ
   pub valuation : Valuation
   pub left_out : ℕ
 
 abbrev pub place_of : Outcome → Place
-place_of o = record { ground = outcome_ground o; valuation = outcome_valuation o; left_out = outcome_left_out o }
+place_of o = record { ground' = outcome_ground o; valuation = outcome_valuation o; left_out = outcome_left_out o }
 
 -- of an item with this ground, amount and valuation: "A left-out item reports its whole amount as left out and no loss", and its value is 0
 unfoldable pub place_with : ℕ → ℕ → Valuation → Place
-place_with ground amount valuation =
-    if eqb ground 0
-    then record { ground = 0; valuation = valuation; left_out = 0 }
-    else record { ground = ground; valuation = no_valuation; left_out = amount }
+place_with ground' amount valuation =
+    if eqb ground' 0
+    then record { ground' = 0; valuation = valuation; left_out = 0 }
+    else record { ground' = ground'; valuation = no_valuation; left_out = amount }
 
 -- "places past a count hold 0 in all of these"
 abbrev pub no_place : Place
-no_place = record { ground = 0; valuation = no_valuation; left_out = 0 }
+no_place = record { ground' = 0; valuation = no_valuation; left_out = 0 }
 
 -- every place of a deal's collateral: all 0 past the count, and everywhere beside a 40
 unfoldable pub collateral_by_number : Deal → List Place

@@ -10,7 +10,7 @@ use Rattle.relief.specs.Grounds.{ground_number, ground_with}
 -- "A left-out item has value 0" (01), and reports "no loss" (02: L2)
 unfoldable pub outcome_valuation : Outcome → Valuation
 outcome_valuation (Valued valuation) = valuation
-outcome_valuation (LeftOut ground amount) = no_valuation
+outcome_valuation (LeftOut ground' amount) = no_valuation
 
 abbrev pub outcome_value : Outcome → ℕ
 outcome_value o = (outcome_valuation o).value
@@ -18,13 +18,13 @@ outcome_value o = (outcome_valuation o).value
 -- "A left-out item reports its whole amount as left out"; nothing where it is valued
 unfoldable pub outcome_left_out : Outcome → ℕ
 outcome_left_out (Valued valuation) = 0
-outcome_left_out (LeftOut ground amount) = amount
+outcome_left_out (LeftOut ground' amount) = amount
 
 -- the number of its ground, 0 where it is valued
 unfoldable pub outcome_ground : Outcome → ℕ
 outcome_ground (Valued valuation) = 0
-outcome_ground (LeftOut ground amount) = ground_number ground
+outcome_ground (LeftOut ground' amount) = ground_number ground'
 
 -- of an item with this ground, which is 0 for none, this amount, and this valuation where it has no ground
 unfoldable pub outcome_for : ℕ → ℕ → Valuation → Outcome
-outcome_for ground amount valuation = if eqb ground 0 then Valued valuation else LeftOut (ground_with ground) amount
+outcome_for ground' amount valuation = if eqb ground' 0 then Valued valuation else LeftOut (ground_with ground') amount

@@ -107,8 +107,8 @@ module _ (table : Table) (v : View) where
   left_out_zero : (i : ℕ) → i < length (guarantee_reports table v) → ZeroIfLeftOut (get_or (guarantee_reports table v) i no_guarantee)
   left_out_zero i h =
       let inside : i < length v.guarantees = omega (arith, length_zip (reported table v) v.guarantees (shares table v) (portion_each table v)) in
-      rw (report_at i inside) (λ ground.
-      let worthless = ap (λ x. x.value) (left_out_nothing (guarantee_outcome table v.terms (guarantee_at i)) ground) in
+      rw (report_at i inside) (λ ground'.
+      let worthless = ap (λ x. x.value) (left_out_nothing (guarantee_outcome table v.terms (guarantee_at i)) ground') in
       (worthless, zero_covers_zero (exposure_after table v) ps (take i ps) (piece_at i) worthless))
 
 -- WHAT IS LEFT OUT HAS VALUE 0 AND COVERS 0, IN EVERY PLACE OF EVERY REPORT
@@ -116,5 +116,5 @@ pub left_out_covers_zero : (table : Table) (d : Deal) (i : ℕ) → ZeroIfLeftOu
 unfolding full_report outcome_ground
 left_out_covers_zero table d i =
     every_report table d (λ r. ZeroIfLeftOut (get_or r.guarantees i no_guarantee))
-    (λ e. places_hold ZeroIfLeftOut no_guarantee list_limit (guarantee_reports table (view_of d)) (λ ground. absurd (ground refl)) (left_out_zero table (view_of d)) i)
-    (places_hold ZeroIfLeftOut no_guarantee list_limit [] (λ ground. absurd (ground refl)) (λ j h. absurd (not-suc-le-zero h)) i)
+    (λ e. places_hold ZeroIfLeftOut no_guarantee list_limit (guarantee_reports table (view_of d)) (λ ground'. absurd (ground' refl)) (left_out_zero table (view_of d)) i)
+    (places_hold ZeroIfLeftOut no_guarantee list_limit [] (λ ground'. absurd (ground' refl)) (λ j h. absurd (not-suc-le-zero h)) i)

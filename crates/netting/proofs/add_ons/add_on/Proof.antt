@@ -6,7 +6,7 @@ use mathlib.Core.Bool.{true, false, not}
 use native.Mathlib.Omega.{arith}
 use lib.ListN.{length, take, drop, get_or}
 use Rattle.base.proofs.Arrays.{unmapped}
-use Rattle.base.proofs.Tests.{tests, told_not_true, told_not_false}
+use Rattle.base.proofs.Tests.{tests, told_true, told_false}
 use Rattle.base.specs.Any.{any}
 use Rattle.netting.specs.AddOns.{add_on_of, figure_of, group_of, number_of}
 use Rattle.netting.specs.Groups.{member}
@@ -18,102 +18,102 @@ use Rattle.netting.specs.Fields.{zero_position}
 use Rattle.netting.proofs.add_ons.add_on.Statement.{statement}
 use Rattle.netting.proofs.add_ons.add_on.Tie as tie
 
-abbrev invariant-loop : tie.invariant-loop
+abbrev invariant-loop : tie.invariant-loop-i
 invariant-loop terms factor count netted positions sum₀ i₀ sum i =
     (i ≤ count) × Counting (number_of netted) (figure_of netted terms (take count positions)) positions count sum i
 
-abbrev decreases-loop : tie.decreases-loop
+abbrev decreases-loop : tie.decreases-loop-i
 decreases-loop terms factor count netted positions sum₀ i₀ sum i = count - i
 
-long : (c : tie.Start invariant-loop decreases-loop) → length c.args.t3 ≡ 32
-long c = search (unmapped, c.well-formed)
+long : (c : tie.Start invariant-loop decreases-loop) → length c.args.positions ≡ 32
+long c = search (unmapped, c.well_formed)
 
-loop-holds : tie.Need-loop-init invariant-loop decreases-loop
+loop-holds : tie.Need-loop-i-init invariant-loop decreases-loop
 loop-holds c = (omega arith, omega arith)
 
-mul-position : tie.Need-overflow-mul-position invariant-loop decreases-loop
+mul-position : tie.Need-offset_bounds-positions-i invariant-loop decreases-loop
 mul-position c = search tests
 
-array-copy-out-position : tie.Need-array-copy-out-position invariant-loop decreases-loop
+array-copy-out-position : tie.Need-bounds-positions-i invariant-loop decreases-loop
 array-copy-out-position c = search tests
 
-add-any-from : tie.Need-overflow-add-any-from invariant-loop decreases-loop
+add-any-from : tie.Need-overflow_add-i invariant-loop decreases-loop
 add-any-from c = search tests
 
-group-of-requires : tie.Need-group-of-requires invariant-loop decreases-loop
+group-of-requires : tie.Need-group_of-requires invariant-loop decreases-loop
 group-of-requires c κs = tt
 
-any-from-requires : tie.Need-any-from-requires invariant-loop decreases-loop
+any-from-requires : tie.Need-any_from-requires invariant-loop decreases-loop
 any-from-requires c κs = omega arith
 
 -- what the positions from the ith on say
-module _ (c : tie.After-any-from invariant-loop decreases-loop) where
-  abbrev at-loop : tie.At-loop invariant-loop decreases-loop
+module _ (c : tie.After-any_from invariant-loop decreases-loop) where
+  abbrev at-loop : tie.At-loop-i invariant-loop decreases-loop
   at-loop = c.before.before.before.before
 
   abbrev start : tie.Start invariant-loop decreases-loop
   start = at-loop.before
 
   abbrev figure : Position → ℕ
-  figure = figure_of start.args.netted start.args.terms (take start.args.count start.args.t3)
+  figure = figure_of start.args.netted start.args.terms (take start.args.count start.args.positions)
 
   abbrev number : Position → ℕ
   number = number_of start.args.netted
 
   abbrev here : Position
-  here = get_or start.args.t3 at-loop.loop.i zero_position
+  here = get_or start.args.positions at-loop.loop-i.i zero_position
 
-  counted : at-loop.loop.i < start.args.count
+  counted : at-loop.loop-i.i < start.args.count
   counted = omega arith
 
-  inside : at-loop.loop.i < length start.args.t3
+  inside : at-loop.loop-i.i < length start.args.positions
   inside = omega (arith, long start)
 
   -- whether a later position has the same number
-  occurs-is : c.any-from.result ≡ occurs number (number here) (drop (at-loop.loop.i + 1) (take start.args.count start.args.t3))
+  occurs-is : c.any_from.result ≡ occurs number (number here) (drop (at-loop.loop-i.i + 1) (take start.args.count start.args.positions))
   occurs-is =
-      c.any-from.ensures ∙ ap (λ g. any (drop (at-loop.loop.i + 1) (take start.args.count start.args.t3)) (member g)) c.before.Group-of.ensures
+      c.any_from.ensures ∙ ap (λ g. any (drop (at-loop.loop-i.i + 1) (take start.args.count start.args.positions)) (member g)) c.before.group_of.ensures
       ∙ group_occurs start.args.netted here _
 
-  later : not c.any-from.result ≡ false → Counting number figure start.args.t3 start.args.count at-loop.loop.sum (at-loop.loop.i + 1)
-  later e = counting_later number figure start.args.t3 start.args.count at-loop.loop.sum at-loop.loop.i zero_position counted inside at-loop.loop.inv.1
-      (told_not_true _ _ occurs-is e)
+  later : not c.any_from.result ≡ false → Counting number figure start.args.positions start.args.count at-loop.loop-i.sum (at-loop.loop-i.i + 1)
+  later e = counting_later number figure start.args.positions start.args.count at-loop.loop-i.sum at-loop.loop-i.i zero_position counted inside at-loop.loop-i.invariant.1
+      (told_true _ _ occurs-is e)
 
-  last : not c.any-from.result ≡ true → Counting number figure start.args.t3 start.args.count (at-loop.loop.sum + figure here) (at-loop.loop.i + 1)
-  last e = counting_here number figure start.args.t3 start.args.count at-loop.loop.sum at-loop.loop.i zero_position counted inside at-loop.loop.inv.1
-      (told_not_false _ _ occurs-is e)
+  last : not c.any_from.result ≡ true → Counting number figure start.args.positions start.args.count (at-loop.loop-i.sum + figure here) (at-loop.loop-i.i + 1)
+  last e = counting_here number figure start.args.positions start.args.count at-loop.loop-i.sum at-loop.loop-i.i zero_position counted inside at-loop.loop-i.invariant.1
+      (told_false _ _ occurs-is e)
 
-  fits : sum_once number figure (take start.args.count start.args.t3) ≤ 1000000000000000000
-  fits = sum_small start.args.netted start.pre.1.0
+  fits : sum_once number figure (take start.args.count start.args.positions) ≤ 1000000000000000000
+  fits = sum_small start.args.netted start.requires.1.0
 
-figure-requires : tie.Need-figure-requires invariant-loop decreases-loop
-figure-requires c κs = (start c.before).pre
+figure-requires : tie.Need-figure-sum-requires invariant-loop decreases-loop
+figure-requires c κs = (start c.before).requires
 
-add-sum : tie.Need-overflow-add-sum invariant-loop decreases-loop
-add-sum c = let a = c.before.before in omega (arith, last a c.before.if1.true, c.figure.ensures, fits a)
+add-sum : tie.Need-overflow_add-sum invariant-loop decreases-loop
+add-sum c = let a = c.before.before in omega (arith, last a c.before.if-not-any_from.true, c.figure-sum.ensures, fits a)
 
-add-i : tie.Need-overflow-add-i invariant-loop decreases-loop
+add-i : tie.Need-overflow_add-i-in-loop-i invariant-loop decreases-loop
 add-i c = search tests
 
-loop-less : tie.Need-loop-smaller invariant-loop decreases-loop
+loop-less : tie.Need-loop-i-smaller invariant-loop decreases-loop
 loop-less c = search tests
 
-loop-again : tie.Need-loop-preserved invariant-loop decreases-loop
+loop-again : tie.Need-loop-i-preserved invariant-loop decreases-loop
 loop-again c =
     let a = c.before in
-    (omega arith, ⊎_elim (λ w. omega (arith, last a w.0.taken, w)) (λ w. omega (arith, later a w.0.left, w)) c.if1.branch)
+    (omega arith, ⊎_elim (λ w. omega (arith, last a w.0.taken, w)) (λ w. omega (arith, later a w.0.left, w)) c.if-not-any_from.branch)
 
 returns : tie.Need-returns invariant-loop decreases-loop
 returns c =
-    let l = c.before.loop in
+    let l = c.before.loop-i in
     let s = c.before.before in
     let a = s.args in
-    let ps = take a.count a.t3 in
-    let e = counting_end (number_of a.netted) (figure_of a.netted a.terms ps) a.t3 a.count l.sum l.i zero_position (omega arith) l.invariant.1 in
+    let ps = take a.count a.positions in
+    let e = counting_end (number_of a.netted) (figure_of a.netted a.terms ps) a.positions a.count l.sum l.i zero_position (omega arith) l.invariant.1 in
     (add_on_is a.netted a.terms ps l.sum e, omega (arith, e, sum_small a.netted s.requires.1.0))
 
-pub add-on-spec : {M : Type 1} → statement M
-add-on-spec =
+pub add_on_spec : {M : Type 1} → statement M
+add_on_spec =
     tie.close
     (tie.spec
     invariant-loop

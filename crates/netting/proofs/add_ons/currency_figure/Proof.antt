@@ -22,10 +22,10 @@ use Rattle.netting.proofs.NetSums.{net_small}
 use Rattle.netting.proofs.add_ons.currency_figure.Statement.{statement}
 use Rattle.netting.proofs.add_ons.currency_figure.Tie as tie
 
-returns : tie.Need-returns
+returns : tie.Need-returns-then-position-terms
 returns c =
     let a = c.before.before.before.args in
-    sym (currency_none a.terms.settlement (currency_haircut_over a.terms) (take a.count a.positions) a.position c.if1.true)
+    sym (currency_none a.terms.settlement (currency_haircut_over a.terms) (take a.count a.positions) a.position c.if-position-terms.true)
 
 net-requires : tie.Need-net-requires
 net-requires c κs = search tests
@@ -42,31 +42,31 @@ module _ (c : tie.After-net) where
   all = take start.args.count start.args.positions
 
   net-is : to_z w64 (of_z w64 c.net.result) ≡ net its all
-  net-is = back _ (record { sfits = c.net.type-inv }) ∙ c.net.ensures
+  net-is = back _ (record { sfits = c.net.type_inv }) ∙ c.net.ensures
 
   small : nat_abs (to_z w64 (of_z w64 c.net.result)) ≤ 1000000000000
-  small = subst (λ (z : ℤ). nat_abs z ≤ 1000000000000) (sym net-is) (net_small its all start.pre.1.0.amounts)
+  small = subst (λ (z : ℤ). nat_abs z ≤ 1000000000000) (sym net-is) (net_small its all start.requires.1.0.amounts)
 
-absolute-requires : tie.Need-absolute-requires
+absolute-requires : tie.Need-absolute-net-requires
 absolute-requires c κs = le_trans (small c) (omega arith)
 
-currency-haircut-requires : tie.Need-currency-haircut-requires
+currency-haircut-requires : tie.Need-currency_haircut-requires
 currency-haircut-requires c κs = search tests
 
-mul-result : tie.Need-overflow-mul-result
+mul-result : tie.Need-overflow_mul-result
 mul-result c =
     let n = c.before.before in
     let s = start n in
-    let h : c.before.absolute.result ≤ 1000000000000 = le_trans (omega (arith, c.before.absolute.ensures)) (small n) in
-    let k : c.currency-haircut.result ≤ 1000000 = le_trans (omega (arith, c.currency-haircut.ensures)) (currency_low s.args.terms s.pre.1.0.few_days) in
+    let h : c.before.absolute-net.result ≤ 1000000000000 = le_trans (omega (arith, c.before.absolute-net.ensures)) (small n) in
+    let k : c.currency_haircut.result ≤ 1000000 = le_trans (omega (arith, c.currency_haircut.ensures)) (currency_low s.args.terms s.requires.1.0.few_days) in
     omega (arith, mul-le-mul h k)
 
-returns-2 : tie.Need-returns-2
+returns-2 : tie.Need-returns
 returns-2 c =
     let n = c.before.before in
     let a = (start n).args in
-    ap₂ ◌*◌ (c.before.absolute.ensures ∙ ap nat_abs (net-is n)) c.currency-haircut.ensures
-    ∙ sym (currency_some a.terms.settlement (currency_haircut_over a.terms) (all n) a.position n.before.if1.false)
+    ap₂ ◌*◌ (c.before.absolute-net.ensures ∙ ap nat_abs (net-is n)) c.currency_haircut.ensures
+    ∙ sym (currency_some a.terms.settlement (currency_haircut_over a.terms) (all n) a.position n.before.if-position-terms.false)
 
-pub currency-figure-spec : {M : Type 1} → statement M
-currency-figure-spec = tie.close (tie.spec returns net-requires absolute-requires currency-haircut-requires mul-result returns-2)
+pub currency_figure_spec : {M : Type 1} → statement M
+currency_figure_spec = tie.close (tie.spec returns net-requires absolute-requires currency-haircut-requires mul-result returns-2)

@@ -3,26 +3,26 @@ use Rattle.base.proofs.Tests.{tests}
 use Rattle.netting.proofs.add_ons.figure.Statement.{statement}
 use Rattle.netting.proofs.add_ons.figure.Tie as tie
 
-enum_told : tie.Need-enum-told
+enum_told : tie.Need-enum_told-1
 enum_told c = search tests
 
-security-figure-requires : tie.Need-security-figure-requires
+security-figure-requires : tie.Need-security_figure-requires
 security-figure-requires c κs = search tests
 
-enum-told-2 : tie.Need-enum-told-2
+enum-told-2 : tie.Need-enum_told-in-Currencies
 enum-told-2 c = search tests
 
-currency-figure-requires : tie.Need-currency-figure-requires
+currency-figure-requires : tie.Need-currency_figure-requires
 currency-figure-requires c κs = search tests
 
-returns : tie.Need-returns
-returns c = rw c.before.enum_told.given.1 c.security-figure.ensures
+returns : tie.Need-returns-in-Securities
+returns c = rw c.before.enum_told-1.given.1 c.security_figure.ensures
 
-returns-2 : tie.Need-returns-2
-returns-2 c = rw c.before.enum-told2.given.1 c.currency-figure.ensures
+returns-2 : tie.Need-returns-in-Currencies
+returns-2 c = rw c.before.in-Currencies.given.1 c.currency_figure.ensures
 
-pub figure-spec : {M : Type 1} → statement M
-figure-spec =
+pub figure_spec : {M : Type 1} → statement M
+figure_spec =
     tie.close
     (tie.spec
     enum_told

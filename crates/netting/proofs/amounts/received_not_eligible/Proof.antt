@@ -10,5 +10,5 @@ returns : tie.Need-returns
 unfolding received_not_eligible
 returns c = rw c.eligible.ensures
 
-pub received-not-eligible-spec : {M : Type 1} → statement M
-received-not-eligible-spec = tie.close (tie.spec eligible-requires returns)
+pub received_not_eligible_spec : {M : Type 1} → statement M
+received_not_eligible_spec = tie.close (tie.spec eligible-requires returns)

@@ -13,56 +13,56 @@ use Rattle.netting.proofs.Totals.{amount_at}
 use Rattle.netting.proofs.amounts.total.Statement.{statement}
 use Rattle.netting.proofs.amounts.total.Tie as tie
 
-abbrev invariant-loop : tie.invariant-loop
+abbrev invariant-loop : tie.invariant-loop-i
 invariant-loop count positions sum₀ i₀ sum i = (i ≤ count) × ((sum ≡ sum_of amount_of (take i positions)) × (sum ≤ i * 1000000000000))
 
-abbrev decreases-loop : tie.decreases-loop
+abbrev decreases-loop : tie.decreases-loop-i
 decreases-loop count positions sum₀ i₀ sum i = count - i
 
-long : (c : tie.Start invariant-loop decreases-loop) → length c.args.t1 ≡ 32
-long c = search (unmapped, c.well-formed)
+long : (c : tie.Start invariant-loop decreases-loop) → length c.args.positions ≡ 32
+long c = search (unmapped, c.well_formed)
 
-loop-holds : tie.Need-loop-init invariant-loop decreases-loop
+loop-holds : tie.Need-loop-i-init invariant-loop decreases-loop
 unfolding sum_of
 loop-holds c = (omega arith, (refl, omega arith))
 
-mul-position : tie.Need-overflow-mul-position invariant-loop decreases-loop
+mul-position : tie.Need-offset_bounds-positions-i invariant-loop decreases-loop
 mul-position c = search tests
 
-array-copy-out-position : tie.Need-array-copy-out-position invariant-loop decreases-loop
+array-copy-out-position : tie.Need-bounds-positions-i invariant-loop decreases-loop
 array-copy-out-position c = search tests
 
-add-sum : tie.Need-overflow-add-sum invariant-loop decreases-loop
+add-sum : tie.Need-overflow_add-sum invariant-loop decreases-loop
 add-sum c =
     let l = c.before.before.before in
     let s = l.before in
-    omega (arith, l.loop.invariant.1.1, amount_at s.args.count l.loop.i s.args.t1 (omega arith) (omega (arith, long s)) s.requires.1)
+    omega (arith, l.loop-i.invariant.1.1, amount_at s.args.count l.loop-i.i s.args.positions (omega arith) (omega (arith, long s)) s.requires.1)
 
-add-i : tie.Need-overflow-add-i invariant-loop decreases-loop
+add-i : tie.Need-overflow_add-i invariant-loop decreases-loop
 add-i c = search tests
 
-loop-less : tie.Need-loop-smaller invariant-loop decreases-loop
+loop-less : tie.Need-loop-i-smaller invariant-loop decreases-loop
 loop-less c = search tests
 
-loop-again : tie.Need-loop-preserved invariant-loop decreases-loop
+loop-again : tie.Need-loop-i-preserved invariant-loop decreases-loop
 loop-again c =
     let l = c.before.before.before in
     let s = l.before in
-    let h : l.loop.i < s.args.count = omega arith in (
+    let h : l.loop-i.i < s.args.count = omega arith in (
       omega arith,
       (
-        omega (arith, l.loop.invariant.1.0, sum_take amount_of s.args.t1 l.loop.i zero_position (omega (arith, long s))),
-        omega (arith, l.loop.invariant.1.1, amount_at s.args.count l.loop.i s.args.t1 h (omega (arith, long s)) s.requires.1),
+        omega (arith, l.loop-i.invariant.1.0, sum_take amount_of s.args.positions l.loop-i.i zero_position (omega (arith, long s))),
+        omega (arith, l.loop-i.invariant.1.1, amount_at s.args.count l.loop-i.i s.args.positions h (omega (arith, long s)) s.requires.1),
       ),
     )
 
 returns : tie.Need-returns invariant-loop decreases-loop
 returns c =
-    let e : c.before.loop.i ≡ c.before.before.args.count = omega arith in
-    rw e at c.before.loop.invariant.1.0
+    let e : c.before.loop-i.i ≡ c.before.before.args.count = omega arith in
+    rw e at c.before.loop-i.invariant.1.0
 
-pub total-spec : {M : Type 1} → statement M
-total-spec =
+pub total_spec : {M : Type 1} → statement M
+total_spec =
     tie.close
     (tie.spec
     invariant-loop

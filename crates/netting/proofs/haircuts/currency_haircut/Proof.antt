@@ -13,5 +13,5 @@ returns : tie.Need-returns
 unfolding currency_haircut_over
 returns c = c.scale.ensures ∙ ap (scaled 80000) c.before.requires.period_is
 
-pub currency-haircut-spec : {M : Type 1} → statement M
-currency-haircut-spec = tie.close (tie.spec scale-requires returns)
+pub currency_haircut_spec : {M : Type 1} → statement M
+currency_haircut_spec = tie.close (tie.spec scale-requires returns)

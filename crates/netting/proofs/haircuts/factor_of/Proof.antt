@@ -8,22 +8,22 @@ use Rattle.netting.proofs.HaircutBounds.{repo_period}
 use Rattle.netting.proofs.haircuts.factor_of.Statement.{statement}
 use Rattle.netting.proofs.haircuts.factor_of.Tie as tie
 
-holding-period-requires : tie.Need-holding-period-requires
+holding-period-requires : tie.Need-holding_period-requires
 holding-period-requires c κs = omega arith
 
 -- no period of a set is above the program's room, whatever the kind
 short : (kind interval n : ℕ) → n ≡ holding_period kind interval → interval ≤ 60 → n ≤ 1000
 short kind interval n e h = omega (arith, e, period_bound kind interval)
 
-of-period-requires : tie.Need-of-period-requires
-of-period-requires c κs = short _ _ _ c.holding-period.ensures c.before.requires.1
+of-period-requires : tie.Need-of_period-requires
+of-period-requires c κs = short _ _ _ c.holding_period.ensures c.before.requires.1
 
 returns : tie.Need-returns
 returns c =
     record {
-      period_is = c.of-period.ensures.0 ∙ c.before.holding-period.ensures ∙ repo_period c.before.before.args.terms;
-      factor_is = c.of-period.ensures.1;
+      period_is = c.of_period.ensures.0 ∙ c.before.holding_period.ensures ∙ repo_period c.before.before.args.terms;
+      factor_is = c.of_period.ensures.1;
     }
 
-pub factor-of-spec : {M : Type 1} → statement M
-factor-of-spec = tie.close (tie.spec holding-period-requires of-period-requires returns)
+pub factor_of_spec : {M : Type 1} → statement M
+factor_of_spec = tie.close (tie.spec holding-period-requires of-period-requires returns)

@@ -7,20 +7,20 @@ use Rattle.netting.specs.Haircuts.{security_haircut}
 use Rattle.netting.proofs.haircuts.security_haircut.Statement.{statement}
 use Rattle.netting.proofs.haircuts.security_haircut.Tie as tie
 
-lent-haircut-under-requires : tie.Need-lent-haircut-under-requires
+lent-haircut-under-requires : tie.Need-lent_haircut_under-requires
 lent-haircut-under-requires c κs = tt
 
 scale-requires : tie.Need-scale-requires
 scale-requires c κs =
     let s = c.before.before in
     let asset = s.args.position.asset in
-    (omega (arith, c.lent-haircut-under.ensures, lent_low s.args.terms.table asset.goods asset.step asset.life), s.requires.factor_is)
+    (omega (arith, c.lent_haircut_under.ensures, lent_low s.args.terms.table asset.goods asset.step asset.life), s.requires.factor_is)
 
 returns : tie.Need-returns
 unfolding security_haircut
 returns c =
     let h = c.before in
-    c.scale.ensures ∙ ap₂ scaled h.lent-haircut-under.ensures h.before.before.requires.period_is
+    c.scale.ensures ∙ ap₂ scaled h.lent_haircut_under.ensures h.before.before.requires.period_is
 
-pub security-haircut-spec : {M : Type 1} → statement M
-security-haircut-spec = tie.close (tie.spec lent-haircut-under-requires scale-requires returns)
+pub security_haircut_spec : {M : Type 1} → statement M
+security_haircut_spec = tie.close (tie.spec lent-haircut-under-requires scale-requires returns)

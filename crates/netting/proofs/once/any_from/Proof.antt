@@ -12,57 +12,57 @@ use Rattle.base.proofs.Rest.{any_here, any_later, any_none}
 use Rattle.netting.proofs.once.any_from.Statement.{statement}
 use Rattle.netting.proofs.once.any_from.Tie as tie
 
-abbrev invariant-loop : tie.invariant-loop
+abbrev invariant-loop : tie.invariant-loop-i
 invariant-loop count from group positions i₀ i =
     (i ≤ count) × (any (drop from (take count positions)) (member group) ≡ any (drop i (take count positions)) (member group))
 
-abbrev decreases-loop : tie.decreases-loop
+abbrev decreases-loop : tie.decreases-loop-i
 decreases-loop count from group positions i₀ i = count - i
 
-long : (c : tie.Start invariant-loop decreases-loop) → length c.args.t1 ≡ 32
-long c = search (unmapped, c.well-formed)
+long : (c : tie.Start invariant-loop decreases-loop) → length c.args.positions ≡ 32
+long c = search (unmapped, c.well_formed)
 
-loop-holds : tie.Need-loop-init invariant-loop decreases-loop
+loop-holds : tie.Need-loop-i-init invariant-loop decreases-loop
 loop-holds c = (c.requires.0, refl)
 
-mul-position : tie.Need-overflow-mul-position invariant-loop decreases-loop
+mul-position : tie.Need-offset_bounds-positions-i invariant-loop decreases-loop
 mul-position c = search tests
 
-array-copy-out-position : tie.Need-array-copy-out-position invariant-loop decreases-loop
+array-copy-out-position : tie.Need-bounds-positions-i invariant-loop decreases-loop
 array-copy-out-position c = search tests
 
-is-member-requires : tie.Need-is-member-requires invariant-loop decreases-loop
+is-member-requires : tie.Need-is_member-requires invariant-loop decreases-loop
 is-member-requires c κs = tt
 
-returns : tie.Need-returns invariant-loop decreases-loop
+returns : tie.Need-returns-then-is_member invariant-loop decreases-loop
 returns c =
     let l = c.before.before.before.before in
     let s = l.before in
     let a = s.args in
-    let h : l.loop.i < a.count = omega arith in
-    sym (l.loop.invariant.1 ∙ any_here (member a.group) a.t1 a.count l.loop.i zero_position h (omega (arith, long s)) (told_true _ _ c.before.is_member.ensures c.if1.true))
+    let h : l.loop-i.i < a.count = omega arith in
+    sym (l.loop-i.invariant.1 ∙ any_here (member a.group) a.positions a.count l.loop-i.i zero_position h (omega (arith, long s)) (told_true _ _ c.before.is_member.ensures c.if-is_member.true))
 
-add-i : tie.Need-overflow-add-i invariant-loop decreases-loop
+add-i : tie.Need-overflow_add-i invariant-loop decreases-loop
 add-i c = search tests
 
-loop-less : tie.Need-loop-smaller invariant-loop decreases-loop
+loop-less : tie.Need-loop-i-smaller invariant-loop decreases-loop
 loop-less c = search tests
 
-loop-again : tie.Need-loop-preserved invariant-loop decreases-loop
+loop-again : tie.Need-loop-i-preserved invariant-loop decreases-loop
 loop-again c =
     let l = c.before.before.before.before in
     let s = l.before in
     let a = s.args in
-    let h : l.loop.i < a.count = omega arith in
-    (omega arith, l.loop.invariant.1 ∙ any_later (member a.group) a.t1 a.count l.loop.i zero_position h (omega (arith, long s)) (told_false _ _ c.before.is_member.ensures c.if1.false))
+    let h : l.loop-i.i < a.count = omega arith in
+    (omega arith, l.loop-i.invariant.1 ∙ any_later (member a.group) a.positions a.count l.loop-i.i zero_position h (omega (arith, long s)) (told_false _ _ c.before.is_member.ensures c.if-is_member.false))
 
-returns-2 : tie.Need-returns-2 invariant-loop decreases-loop
+returns-2 : tie.Need-returns invariant-loop decreases-loop
 returns-2 c =
     let a = c.before.before.args in
-    sym (c.before.loop.invariant.1 ∙ any_none (member a.group) a.t1 a.count c.before.loop.i (omega arith))
+    sym (c.before.loop-i.invariant.1 ∙ any_none (member a.group) a.positions a.count c.before.loop-i.i (omega arith))
 
-pub any-from-spec : {M : Type 1} → statement M
-any-from-spec =
+pub any_from_spec : {M : Type 1} → statement M
+any_from_spec =
     tie.close
     (tie.spec
     invariant-loop

@@ -16,46 +16,46 @@ use Rattle.relief.proofs.ValueBounds.{sum_low}
 use Rattle.relief.proofs.bare.bare_amounts.Statement.{statement}
 use Rattle.relief.proofs.bare.bare_amounts.Tie as tie
 
-scaled-lent-haircut-requires : tie.Need-scaled-lent-haircut-requires
+scaled-lent-haircut-requires : tie.Need-scaled_lent_haircut-requires
 scaled-lent-haircut-requires c κs = c.requires.1
 
-exposure-after-requires : tie.Need-exposure-after-requires
-exposure-after-requires c κs = (c.before.requires.0, c.scaled-lent-haircut.ensures)
+exposure-after-requires : tie.Need-exposure_after-exposure-requires
+exposure-after-requires c κs = (c.before.requires.0, c.scaled_lent_haircut.ensures)
 
-weight-of-requires : tie.Need-weight-of-requires
+weight-of-requires : tie.Need-weight_of-weight-requires
 weight-of-requires c κs = c.before.before.requires.0
 
-module _ (c : tie.After-weight-of) where
+module _ (c : tie.After-weight_of-weight) where
   abbrev start : tie.Start
   start = c.before.before.before
 
-  exposure-is : c.before.exposure-after.result ≡ exposure_after (table_for start.args.terms) (unprotected start.args.terms)
+  exposure-is : c.before.exposure_after-exposure.result ≡ exposure_after (table_for start.args.terms) (unprotected start.args.terms)
   unfolding exposure_after collateral_total sum_of
-  exposure-is = c.before.exposure-after.ensures
+  exposure-is = c.before.exposure_after-exposure.ensures
 
-  sum_is : c.before.exposure-after.result * c.weight-of.result ≡
+  sum_is : c.before.exposure_after-exposure.result * c.weight_of-weight.result ≡
       weighted_sum (counterparty_weight_of (table_for start.args.terms) start.args.terms) (exposure_after (table_for start.args.terms) (unprotected start.args.terms)) []
   sum_is =
       let t = start.args.terms in
-      ap (λ E. E * c.weight-of.result) exposure-is
-      ∙ ap (λ W. exposure_after (table_for t) (unprotected t) * W) c.weight-of.ensures
+      ap (λ E. E * c.weight_of-weight.result) exposure-is
+      ∙ ap (λ W. exposure_after (table_for t) (unprotected t) * W) c.weight_of-weight.ensures
       ∙ sym (none_covers _ _)
 
-  low : c.before.exposure-after.result * c.weight-of.result ≤ 1000000000000 * 1000
-  low = omega (arith, sum_is, sum_low (unprotected start.args.terms) (plain_terms start.args.terms start.pre.0) refl)
+  low : c.before.exposure_after-exposure.result * c.weight_of-weight.result ≤ 1000000000000 * 1000
+  low = omega (arith, sum_is, sum_low (unprotected start.args.terms) (plain_terms start.args.terms start.requires.0) refl)
 
 returns : tie.Need-returns
 unfolding risk_weighted_amount_of
-returns c = (exposure-is c.before, c.risk-weighted-amount.ensures ∙ ap risk_weighted_amount (sum_is c.before))
+returns c = (exposure-is c.before, c.risk_weighted_amount.ensures ∙ ap risk_weighted_amount (sum_is c.before))
 
-mul-risk-weighted-amount : tie.Need-overflow-mul-risk-weighted-amount
+mul-risk-weighted-amount : tie.Need-overflow_mul-exposure
 mul-risk-weighted-amount c = omega (arith, low c)
 
-risk-weighted-amount-requires : tie.Need-risk-weighted-amount-requires
+risk-weighted-amount-requires : tie.Need-risk_weighted_amount-requires
 risk-weighted-amount-requires c κs = omega (arith, low c)
 
-pub bare-amounts-spec : {M : Type 1} → statement M
-bare-amounts-spec =
+pub bare_amounts_spec : {M : Type 1} → statement M
+bare_amounts_spec =
     tie.close
     (tie.spec
     scaled-lent-haircut-requires

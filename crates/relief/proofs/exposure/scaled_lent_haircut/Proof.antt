@@ -6,20 +6,20 @@ use Rattle.relief.specs.Exposure.{scaled_lent_haircut}
 use Rattle.relief.proofs.exposure.scaled_lent_haircut.Statement.{statement}
 use Rattle.relief.proofs.exposure.scaled_lent_haircut.Tie as tie
 
-lent-haircut-under-requires : tie.Need-lent-haircut-under-requires
+lent-haircut-under-requires : tie.Need-lent_haircut_under-haircut-requires
 lent-haircut-under-requires c κs = tt
 
 scale-requires : tie.Need-scale-requires
 scale-requires c κs =
     let s = c.before.before in
     let lent = s.args.terms.lent in
-    (omega (arith, c.lent-haircut-under.ensures, lent_low s.args.terms.edition lent.goods lent.step lent.life), s.requires.1)
+    (omega (arith, c.lent_haircut_under-haircut.ensures, lent_low s.args.terms.edition lent.goods lent.step lent.life), s.requires.1)
 
 returns : tie.Need-returns
 unfolding scaled_lent_haircut table_for
 returns c =
     let h = c.before in
-    rw (c.scale.ensures, h.lent-haircut-under.ensures, h.before.before.requires.0)
+    rw (c.scale.ensures, h.lent_haircut_under-haircut.ensures, h.before.before.requires.0)
 
-pub scaled-lent-haircut-spec : {M : Type 1} → statement M
-scaled-lent-haircut-spec = tie.close (tie.spec lent-haircut-under-requires scale-requires returns)
+pub scaled_lent_haircut_spec : {M : Type 1} → statement M
+scaled_lent_haircut_spec = tie.close (tie.spec lent-haircut-under-requires scale-requires returns)

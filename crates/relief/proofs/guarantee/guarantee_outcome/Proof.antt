@@ -9,34 +9,34 @@ use Rattle.relief.proofs.guarantee.guarantee_outcome.Tie as tie
 plain : (c : tie.Start) → PlainGuarantee c.args.item
 plain c = plain_guarantee c.args.item c.requires.0.0
 
-provider-weight-under-requires : tie.Need-provider-weight-under-requires
+provider-weight-under-requires : tie.Need-provider_weight_under-weight-requires
 provider-weight-under-requires c κs = let p = plain c.before in (p.class.0, (p.class.1, (p.step, p.sovereign_step)))
 
-scaled-currency-haircut-requires : tie.Need-scaled-currency-haircut-requires
+scaled-currency-haircut-requires : tie.Need-scaled_currency_haircut-haircut-requires
 scaled-currency-haircut-requires c κs = c.before.before.requires.1.1
 
 -- the weight under the deal's tables
-weighs : (c : tie.After-provider-weight-under) → c.provider-weight-under.result ≡ provider_weight_of (table_for c.before.before.args.terms) c.before.before.args.item
+weighs : (c : tie.After-provider_weight_under-weight) → c.provider_weight_under-weight.result ≡ provider_weight_of (table_for c.before.before.args.terms) c.before.before.args.item
 unfolding table_for
-weighs c = c.provider-weight-under.ensures
+weighs c = c.provider_weight_under-weight.ensures
 
-outcome-after-haircut-requires : tie.Need-outcome-after-haircut-requires
+outcome-after-haircut-requires : tie.Need-outcome_after_haircut-outcome-requires
 outcome-after-haircut-requires c κs =
     let w = c.before in
     let s = w.before.before in
-    (((plain s).amount, rw (c.scaled-currency-haircut.ensures, s.requires.1.0)), (weighs w, s.requires.0.1))
+    (((plain s).amount, rw (c.scaled_currency_haircut-haircut.ensures, s.requires.1.0)), (weighs w, s.requires.0.1))
 
-valuation-requires : tie.Need-valuation-requires
+valuation-requires : tie.Need-valuation-valuation-requires
 valuation-requires c κs = tt
 
 returns : tie.Need-returns
 returns c =
     let o = c.before in
     let w = o.before.before in
-    (o.outcome-after-haircut.ensures, rw (c.valuation.ensures, o.outcome-after-haircut.ensures, weighs w))
+    (o.outcome_after_haircut-outcome.ensures, rw (c.valuation-valuation.ensures, o.outcome_after_haircut-outcome.ensures, weighs w))
 
-pub guarantee-outcome-spec : {M : Type 1} → statement M
-guarantee-outcome-spec =
+pub guarantee_outcome_spec : {M : Type 1} → statement M
+guarantee_outcome_spec =
     tie.close
     (tie.spec
     provider-weight-under-requires

@@ -6,13 +6,13 @@ use Rattle.relief.specs.Guarantees.{hedged_amount}
 use Rattle.relief.proofs.guarantee.hedged_amount.Statement.{statement}
 use Rattle.relief.proofs.guarantee.hedged_amount.Tie as tie
 
-returns : tie.Need-returns
+returns : tie.Need-returns-then-item-eq-SWAP_WITHOUT_RESTRUCTURING
 unfolding hedged_amount
-returns c = c.partially-recognised.ensures ∙ sym (if_true _ _ _ (eq-eqb _ 1 c.before.if1.true))
+returns c = c.partially_recognised.ensures ∙ sym (if_true _ _ _ (eq-eqb _ 1 c.if-item-eq-SWAP_WITHOUT_RESTRUCTURING.true))
 
-returns-2 : tie.Need-returns-2
+returns-2 : tie.Need-returns
 unfolding hedged_amount
-returns-2 c = sym (if_false _ _ _ (ne_eqb _ 1 c.if1.false))
+returns-2 c = sym (if_false _ _ _ (ne_eqb _ 1 c.if-item-eq-SWAP_WITHOUT_RESTRUCTURING.false))
 
-pub hedged-amount-spec : {M : Type 1} → statement M
-hedged-amount-spec = tie.close (tie.spec (λ c κs. c.before.before.requires) returns returns-2)
+pub hedged_amount_spec : {M : Type 1} → statement M
+hedged_amount_spec = tie.close (tie.spec (λ c κs. c.requires) returns returns-2)

@@ -26,69 +26,69 @@ record Holds (t : Terms) (items : List Guarantee) (count : ℕ) (reports : List 
   passed : i ≤ count
   held : count ≤ 16
 
-abbrev invariant-loop : tie.invariant-loop
+abbrev invariant-loop : tie.invariant-loop-i
 invariant-loop terms counterparty-weight factor items count reports₀ protections₀ i₀ reports protections i = Holds terms items count reports protections i
 
-abbrev decreases-loop : tie.decreases-loop
+abbrev decreases-loop : tie.decreases-loop-i
 decreases-loop terms counterparty-weight factor items count reports₀ protections₀ i₀ reports protections i = count - i
 
 long : (c : tie.Start invariant-loop decreases-loop) → length c.args.list.items ≡ 16
-long c = search (unmapped, c.well-formed)
+long c = search (unmapped, c.well_formed)
 
-loop-holds : tie.Need-loop-init invariant-loop decreases-loop
+loop-holds : tie.Need-loop-i-init invariant-loop decreases-loop
 loop-holds c =
     let s = c.before in
     record { passed = omega arith; held = guarantee_count s.args.list s.requires.0.0; reported = refl; protected = refl }
 
-mul-item : tie.Need-overflow-mul-item invariant-loop decreases-loop
+mul-item : tie.Need-offset_bounds-items-i invariant-loop decreases-loop
 mul-item c = omega arith
 
-array-copy-out-item : tie.Need-array-copy-out-item invariant-loop decreases-loop
+array-copy-out-item : tie.Need-bounds-items-i invariant-loop decreases-loop
 array-copy-out-item c = omega arith
 
-guarantee-outcome-requires : tie.Need-guarantee-outcome-requires invariant-loop decreases-loop
+guarantee-outcome-requires : tie.Need-guarantee_outcome-valued-requires invariant-loop decreases-loop
 guarantee-outcome-requires c κs =
     let l = c.before.before in
     let s = l.before.before in
-    let item = guarantee_taken s.args.list s.requires.0.0 l.loop.i zero_guarantee c.before.loop-test.true (omega (arith, long s)) in
+    let item = guarantee_taken s.args.list s.requires.0.0 l.loop-i.i zero_guarantee c.before.loop-i-test.true (omega (arith, long s)) in
     ((item, s.requires.0.1), s.requires.1)
 
-mul-reports : tie.Need-overflow-mul-reports invariant-loop decreases-loop
+mul-reports : tie.Need-offset_bounds-reports-i invariant-loop decreases-loop
 mul-reports c = omega arith
 
-array-set-from-reports : tie.Need-array-set-from-reports invariant-loop decreases-loop
+array-set-from-reports : tie.Need-bounds-reports-i invariant-loop decreases-loop
 array-set-from-reports c = omega arith
 
-mul-protections : tie.Need-overflow-mul-protections invariant-loop decreases-loop
+mul-protections : tie.Need-offset_bounds-protections-i invariant-loop decreases-loop
 mul-protections c = omega arith
 
-array-set-from-protections : tie.Need-array-set-from-protections invariant-loop decreases-loop
+array-set-from-protections : tie.Need-bounds-protections-i invariant-loop decreases-loop
 array-set-from-protections c = omega arith
 
-add-i : tie.Need-overflow-add-i invariant-loop decreases-loop
+add-i : tie.Need-overflow_add-i invariant-loop decreases-loop
 add-i c = omega arith
 
-loop-less : tie.Need-loop-smaller invariant-loop decreases-loop
+loop-less : tie.Need-loop-i-smaller invariant-loop decreases-loop
 loop-less c = omega arith
 
-loop-again : tie.Need-loop-preserved invariant-loop decreases-loop
+loop-again : tie.Need-loop-i-preserved invariant-loop decreases-loop
 loop-again c =
     let v = c.before in
     let l = v.before.before.before in
     let s = l.before.before in
     let items = s.args.list.items in
-    let i = l.loop.i in
+    let i = l.loop-i.i in
     let h : i < length items = omega (arith, long s) in
     record {
-      reported = rw (l.loop.invariant.reported, v.guarantee-outcome.ensures.0) (fill_more (without_portion (table_for s.args.terms) s.args.terms) zero_guarantee i items _ h (omega arith));
-      protected = rw (l.loop.invariant.protected, v.guarantee-outcome.ensures.1) (fill_more (protection_of (table_for s.args.terms) s.args.terms) zero_guarantee i items _ h (omega arith));
+      reported = rw (l.loop-i.invariant.reported, v.guarantee_outcome-valued.ensures.0) (fill_more (without_portion (table_for s.args.terms) s.args.terms) zero_guarantee i items _ h (omega arith));
+      protected = rw (l.loop-i.invariant.protected, v.guarantee_outcome-valued.ensures.1) (fill_more (protection_of (table_for s.args.terms) s.args.terms) zero_guarantee i items _ h (omega arith));
       passed = omega arith;
-      held = l.loop.invariant.held;
+      held = l.loop-i.invariant.held;
     }
 
 returns : tie.Need-returns invariant-loop decreases-loop
 returns c =
-    let l = c.before.loop in
+    let l = c.before.loop-i in
     let s = c.before.before.before in
     let counted = take s.args.list.count s.args.list.items in
     let count = s.args.list.count in
@@ -98,8 +98,8 @@ returns c =
     let g = protection_of (table_for s.args.terms) s.args.terms in
     (rw (l.invariant.reported, e) (placed 16 count no_guarantee (map f counted) (length-map counted f ∙ n)), rw (l.invariant.protected, e) (placed 16 count no_protection (map g counted) (length-map counted g ∙ n)))
 
-pub value-guarantees-spec : {M : Type 1} → statement M
-value-guarantees-spec =
+pub value_guarantees_spec : {M : Type 1} → statement M
+value_guarantees_spec =
     tie.close
     (tie.spec
     invariant-loop

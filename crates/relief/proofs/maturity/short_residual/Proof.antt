@@ -4,13 +4,13 @@ use Rattle.relief.specs.Maturity.{short_residual}
 use Rattle.relief.proofs.maturity.short_residual.Statement.{statement}
 use Rattle.relief.proofs.maturity.short_residual.Tie as tie
 
-returns : tie.Need-returns
+returns : tie.Need-returns-then-residual-terms
 unfolding short_residual
 returns c = search tests
 
-returns-2 : tie.Need-returns-2
+returns-2 : tie.Need-returns
 unfolding short_residual
 returns-2 c = search tests
 
-pub short-residual-spec : {M : Type 1} → statement M
-short-residual-spec = tie.close (tie.spec returns returns-2)
+pub short_residual_spec : {M : Type 1} → statement M
+short_residual_spec = tie.close (tie.spec returns returns-2)

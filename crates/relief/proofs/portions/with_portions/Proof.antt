@@ -12,61 +12,61 @@ use Rattle.relief.specs.Portions.{covering}
 use Rattle.relief.proofs.portions.with_portions.Statement.{statement}
 use Rattle.relief.proofs.portions.with_portions.Tie as tie
 
-abbrev invariant-loop : tie.invariant-loop
+abbrev invariant-loop : tie.invariant-loop-i
 invariant-loop count values portions reports₀ i₀ reports i =
     (i ≤ count) × (reports ≡ zip_with covering (take i values) (take i portions) ++ drop i (replicate 16 no_guarantee))
 
-abbrev decreases-loop : tie.decreases-loop
+abbrev decreases-loop : tie.decreases-loop-i
 decreases-loop count values portions reports₀ i₀ reports i = count - i
 
-long : (c : tie.Start invariant-loop decreases-loop) → length c.args.t1 ≡ 16
-long c = search (unmapped, c.well-formed)
+long : (c : tie.Start invariant-loop decreases-loop) → length c.args.values ≡ 16
+long c = search (unmapped, c.well_formed)
 
-loop-holds : tie.Need-loop-init invariant-loop decreases-loop
+loop-holds : tie.Need-loop-i-init invariant-loop decreases-loop
 unfolding zip_with
 loop-holds c = (omega arith, refl)
 
-mul-value : tie.Need-overflow-mul-value invariant-loop decreases-loop
+mul-value : tie.Need-offset_bounds-values-i invariant-loop decreases-loop
 mul-value c = omega arith
 
-array-copy-out-value : tie.Need-array-copy-out-value invariant-loop decreases-loop
+array-copy-out-value : tie.Need-bounds-values-i invariant-loop decreases-loop
 array-copy-out-value c = omega arith
 
-mul-portion : tie.Need-overflow-mul-portion invariant-loop decreases-loop
+mul-portion : tie.Need-offset_bounds-portions-i invariant-loop decreases-loop
 mul-portion c = omega arith
 
-array-read-portion : tie.Need-array-read-portion invariant-loop decreases-loop
+array-read-portion : tie.Need-bounds-portions-i invariant-loop decreases-loop
 array-read-portion c = omega arith
 
-mul-reports : tie.Need-overflow-mul-reports invariant-loop decreases-loop
+mul-reports : tie.Need-offset_bounds-reports-i invariant-loop decreases-loop
 mul-reports c = omega arith
 
-array-set-from-reports : tie.Need-array-set-from-reports invariant-loop decreases-loop
+array-set-from-reports : tie.Need-bounds-reports-i invariant-loop decreases-loop
 array-set-from-reports c = omega arith
 
-add-i : tie.Need-overflow-add-i invariant-loop decreases-loop
+add-i : tie.Need-overflow_add-i invariant-loop decreases-loop
 add-i c = omega arith
 
-loop-less : tie.Need-loop-smaller invariant-loop decreases-loop
+loop-less : tie.Need-loop-i-smaller invariant-loop decreases-loop
 loop-less c = omega arith
 
-loop-again : tie.Need-loop-preserved invariant-loop decreases-loop
+loop-again : tie.Need-loop-i-preserved invariant-loop decreases-loop
 loop-again c =
     let l = c.before.before in
     let s = l.before in
-    let i = l.loop.i in
-    let h : i < length s.args.t1 = omega (arith, long s) in
-    let k : length s.args.t2 ≡ 16 = search tests in
-    (omega arith, rw l.loop.invariant.1 (zip_more covering no_guarantee 0 i s.args.t1 s.args.t2 _ h (omega (arith, k)) (omega arith)))
+    let i = l.loop-i.i in
+    let h : i < length s.args.values = omega (arith, long s) in
+    let k : length s.args.portions ≡ 16 = search tests in
+    (omega arith, rw l.loop-i.invariant.1 (zip_more covering no_guarantee 0 i s.args.values s.args.portions _ h (omega (arith, k)) (omega arith)))
 
 returns : tie.Need-returns invariant-loop decreases-loop
 returns c =
-    let l = c.before.loop in
+    let l = c.before.loop-i in
     let e : l.i ≡ c.before.before.args.count = omega arith in
     rw (l.invariant.1, e)
 
-pub with-portions-spec : {M : Type 1} → statement M
-with-portions-spec =
+pub with_portions_spec : {M : Type 1} → statement M
+with_portions_spec =
     tie.close
     (tie.spec
     invariant-loop

@@ -50,7 +50,7 @@ module _ (c : tie.Start) where
   count = guarantee_count c.args.guarantees parts.1.1
 
   long : length c.args.guarantees.items ≡ 16
-  long = search (unmapped, c.well-formed)
+  long = search (unmapped, c.well_formed)
 
   each-taken : all_pass view.guarantees (λ g. eqb (guarantee_refusal g) 0) ≡ true
   unfolding guarantee_list_allowed
@@ -59,47 +59,47 @@ module _ (c : tie.Start) where
   counted : length view.guarantees ≡ c.args.guarantees.count
   counted = length-take-le c.args.guarantees.count c.args.guarantees.items (omega (arith, long, count))
 
-weight-of-requires : tie.Need-weight-of-requires
+weight-of-requires : tie.Need-weight_of-weight-requires
 weight-of-requires c κs = (parts c).0
 
-value-collateral-requires : tie.Need-value-collateral-requires
-value-collateral-requires c κs = let s = c.before in ((parts s).1.0, (s.requires.1.deal_period, s.requires.1.deal_factor))
+value-collateral-requires : tie.Need-value_collateral-pledged-requires
+value-collateral-requires c κs = let s = c.before.before in ((parts s).1.0, (s.requires.1.deal_period, s.requires.1.deal_factor))
 
-value-guarantees-requires : tie.Need-value-guarantees-requires
+value-guarantees-requires : tie.Need-value_guarantees-guaranteed-requires
 value-guarantees-requires c κs =
-    let s = c.before.before in
-    (((parts s).1.1, c.before.weight-of.ensures), (s.requires.1.guarantee_period_lem, s.requires.1.guarantee_factor))
+    let s = c.before.before.before.before in
+    (((parts s).1.1, c.weight_of-weight.ensures), (s.requires.1.guarantee_period_lem, s.requires.1.guarantee_factor))
 
-scaled-lent-haircut-requires : tie.Need-scaled-lent-haircut-requires
-scaled-lent-haircut-requires c κs = let r = c.before.before.before.requires.1 in (r.deal_period, r.deal_factor)
+scaled-lent-haircut-requires : tie.Need-scaled_lent_haircut-requires
+scaled-lent-haircut-requires c κs = let r = c.requires.1 in (r.deal_period, r.deal_factor)
 
-exposure-after-requires : tie.Need-exposure-after-requires
-exposure-after-requires c κs = ((parts c.before.before.before.before).0, c.scaled-lent-haircut.ensures)
+exposure-after-requires : tie.Need-exposure_after-exposure-requires
+exposure-after-requires c κs = ((parts c.before.before.before.before.before.before.before).0, c.scaled_lent_haircut.ensures)
 
 -- exposure, weight and pieces are the definition's
-module _ (c : tie.After-exposure-after) where
-  abbrev valued : tie.After-value-guarantees
-  valued = c.before.before
+module _ (c : tie.After-exposure_after-exposure) where
+  abbrev valued : tie.After-value_guarantees-guaranteed
+  valued = c.before.before.before
 
   abbrev start : tie.Start
-  start = valued.before.before.before
+  start = valued.before.before.before.before.before
 
-  exposure-is : c.exposure-after.result ≡ exposure_after (table start) (view start)
+  exposure-is : c.exposure_after-exposure.result ≡ exposure_after (table start) (view start)
   unfolding exposure_after
   exposure-is =
       let t = start.args.terms in
-      c.exposure-after.ensures ∙ ap (λ x. min t.amount (adjusted_exposure_of (table start) t - x)) valued.before.value-collateral.ensures.1
+      c.exposure_after-exposure.ensures ∙ ap (λ x. min t.amount (adjusted_exposure_of (table start) t - x)) valued.value_collateral-pledged.ensures.1
 
-  weight_is : valued.before.before.weight-of.result ≡ counterparty_weight_of (table start) start.args.terms
-  weight_is = valued.before.before.weight-of.ensures
+  weight_is : valued.weight_of-weight.result ≡ counterparty_weight_of (table start) start.args.terms
+  weight_is = valued.weight_of-weight.ensures
 
-  pieces_are : take start.args.guarantees.count valued.value-guarantees.result.protections ≡ pieces_of (table start) (view start)
+  pieces_are : take start.args.guarantees.count valued.value_guarantees-guaranteed.result.protections ≡ pieces_of (table start) (view start)
   pieces_are =
-      ap (λ x. take start.args.guarantees.count x) valued.value-guarantees.ensures.1
+      ap (λ x. take start.args.guarantees.count x) valued.value_guarantees-guaranteed.ensures.1
       ∙ taken 16 start.args.guarantees.count no_protection (pieces_of (table start) (view start))
       (length-map (view start).guarantees (protection_of (table start) start.args.terms) ∙ counted start)
 
-cover-requires : tie.Need-cover-requires
+cover-requires : tie.Need-cover-covered-requires
 cover-requires c κs =
     let e = c.before in
     let s = start e in
@@ -115,15 +115,15 @@ cover-requires c κs =
     )
 
 -- and so is the cover
-cover-is : (c : tie.After-cover) →
+cover-is : (c : tie.After-cover-covered) →
     let s = start c.before.before in
-    c.cover.result ≡ cover_of (counterparty_weight_of (table s) s.args.terms) (exposure_after (table s) (view s)) (pieces_of (table s) (view s))
-cover-is c = let e = c.before.before in c.cover.ensures ∙ same_cover (weight_is e) (exposure-is e) (pieces_are e)
+    c.cover-covered.result ≡ cover_of (counterparty_weight_of (table s) s.args.terms) (exposure_after (table s) (view s)) (pieces_of (table s) (view s))
+cover-is c = let e = c.before.before in c.cover-covered.ensures ∙ same_cover (weight_is e) (exposure-is e) (pieces_are e)
 
-with-portions-requires : tie.Need-with-portions-requires
+with-portions-requires : tie.Need-with_portions-reports-requires
 with-portions-requires c κs = count (start c.before.before.before.before)
 
-risk-weighted-amount-requires : tie.Need-risk-weighted-amount-requires
+risk-weighted-amount-requires : tie.Need-risk_weighted_amount-requires
 risk-weighted-amount-requires c κs =
     let v = c.before.before.before.before in
     let s = start v.before.before in
@@ -138,13 +138,13 @@ returns c =
     let s = start e in
     same_report Accepted
     (exposure-is e)
-    (valued e).before.value-collateral.ensures.0
-    (p.with-portions.ensures ∙ guarantees_assembled (table s) (view s) s.args.guarantees.count (counted s) _ _ (valued e).value-guarantees.ensures.0 (ap (λ x. x.portions) (cover-is v)))
+    (valued e).value_collateral-pledged.ensures.0
+    (p.with_portions-reports.ensures ∙ guarantees_assembled (table s) (view s) s.args.guarantees.count (counted s) _ _ (valued e).value_guarantees-guaranteed.ensures.0 (ap (λ x. x.portions) (cover-is v)))
     (ap (λ x. x.uncovered) (cover-is v))
-    (c.risk-weighted-amount.ensures ∙ ap (λ x. risk_weighted_amount x.weighted_sum) (cover-is v))
+    (c.risk_weighted_amount.ensures ∙ ap (λ x. risk_weighted_amount x.weighted_sum) (cover-is v))
 
-pub full-report-spec : {M : Type 1} → statement M
-full-report-spec =
+pub full_report_spec : {M : Type 1} → statement M
+full_report_spec =
     tie.close
     (tie.spec
     weight-of-requires

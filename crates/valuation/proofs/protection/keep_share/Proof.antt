@@ -4,16 +4,16 @@ use Rattle.valuation.specs.Protection.{keep_share}
 use Rattle.valuation.proofs.protection.keep_share.Statement.{statement}
 use Rattle.valuation.proofs.protection.keep_share.Tie as tie
 
-sub-result : tie.Need-overflow-sub-result
+sub-result : tie.Need-overflow_sub-result
 sub-result c = search tests
 
-returns : tie.Need-returns
+returns : tie.Need-returns-then-haircut-lt-WHOLE
 unfolding keep_share
 returns c = search tests
 
-returns-2 : tie.Need-returns-2
+returns-2 : tie.Need-returns
 unfolding keep_share
 returns-2 c = search tests
 
-pub keep-share-spec : {M : Type 1} → statement M
-keep-share-spec = tie.close (tie.spec sub-result returns returns-2)
+pub keep_share_spec : {M : Type 1} → statement M
+keep_share_spec = tie.close (tie.spec sub-result returns returns-2)

@@ -11,46 +11,46 @@ use Rattle.valuation.specs.Protection.{maturity_adjusted, mismatched}
 use Rattle.valuation.proofs.protection.maturity_adjusted.Statement.{statement}
 use Rattle.valuation.proofs.protection.maturity_adjusted.Tie as tie
 
-returns : tie.Need-returns
+returns : tie.Need-returns-then-cover-term
 unfolding maturity_adjusted mismatched
 returns c = search tests
 
-returns-2 : tie.Need-returns-2
+returns-2 : tie.Need-returns-then-cover-le-SHORTEST
 unfolding maturity_adjusted mismatched
 returns-2 c =
     let a = c.before.before.args in
     sym (maturity_adjusted_none a.value a.cover a.term (omega arith) (omega arith))
 
-smaller-requires : tie.Need-smaller-requires
+smaller-requires : tie.Need-smaller-deal_term-requires
 smaller-requires c κs = search tests
 
-smaller-requires-2 : tie.Need-smaller-requires-2
+smaller-requires-2 : tie.Need-smaller-cover_term-requires
 smaller-requires-2 c κs = search tests
 
-sub-result : tie.Need-overflow-sub-result
+sub-result : tie.Need-overflow_sub-result
 sub-result c = search tests
 
-mul-result : tie.Need-overflow-mul-result
+mul-result : tie.Need-overflow_mul-result
 mul-result c =
-    let h : c.smaller2.result - 90 ≤ 1710 = omega arith in
+    let h : c.smaller-cover_term.result - 90 ≤ 1710 = omega arith in
     omega (arith, mul-le-mul c.before.before.before.before.requires h)
 
-sub-result-2 : tie.Need-overflow-sub-result-2
+sub-result-2 : tie.Need-overflow_sub-result-2
 sub-result-2 c = search tests
 
-div-result : tie.Need-nonzero-div-result
+div-result : tie.Need-nonzero_div-result
 div-result c = search tests
 
-returns-3 : tie.Need-returns-3
+returns-3 : tie.Need-returns
 unfolding maturity_adjusted mismatched
 returns-3 c =
     let a = c.before.before.before.before.args in
-    let T : c.before.smaller.result ≡ min a.term 1800 = omega arith in
-    let t : c.smaller2.result ≡ min (min a.term 1800) a.cover = omega arith in
-    rw (t, T, if_true _ _ _ (lt-ltb _ _ c.before.before.before.if1.false))
+    let T : c.before.smaller-deal_term.result ≡ min a.term 1800 = omega arith in
+    let t : c.smaller-cover_term.result ≡ min (min a.term 1800) a.cover = omega arith in
+    rw (t, T, if_true _ _ _ (lt-ltb _ _ c.before.before.before.if-cover-term.false))
 
-pub maturity-adjusted-spec : {M : Type 1} → statement M
-maturity-adjusted-spec =
+pub maturity_adjusted_spec : {M : Type 1} → statement M
+maturity_adjusted_spec =
     tie.close
     (tie.spec
     returns

@@ -7,25 +7,25 @@ use Rattle.netting.specs.Positions.{position_refusal, position_tests}
 use Rattle.netting.proofs.position.Position.check.Statement.{statement}
 use Rattle.netting.proofs.position.Position.check.Tie as tie
 
-amount-allowed-requires : tie.Need-amount-allowed-requires
+amount-allowed-requires : tie.Need-amount_allowed-requires
 amount-allowed-requires c κs = tt
 
-side-known-requires : tie.Need-side-known-requires
+side-known-requires : tie.Need-side_known-requires
 side-known-requires c κs = tt
 
-goods-known-requires : tie.Need-goods-known-requires
+goods-known-requires : tie.Need-goods_known-requires
 goods-known-requires c κs = tt
 
-step-allowed-requires : tie.Need-step-allowed-requires
+step-allowed-requires : tie.Need-step_allowed-requires
 step-allowed-requires c κs = tt
 
-currency-allowed-requires : tie.Need-currency-allowed-requires
+currency-allowed-requires : tie.Need-currency_allowed-requires
 currency-allowed-requires c κs = tt
 
-security-allowed-requires : tie.Need-security-allowed-requires
+security-allowed-requires : tie.Need-security_allowed-requires
 security-allowed-requires c κs = tt
 
-life-allowed-requires : tie.Need-life-allowed-requires
+life-allowed-requires : tie.Need-life_allowed-requires
 life-allowed-requires c κs = tt
 
 answer-requires : tie.Need-answer-requires
@@ -42,10 +42,10 @@ returns c =
     let side = goods.before in
     let amount = side.before in
     c.answer.ensures
-    ∙ same_checks {f = true} {g = true} amount.amount-allowed.ensures (and_same _ _ _ _ side.side-known.ensures goods.goods-known.ensures) step.step-allowed.ensures currency.currency-allowed.ensures (and_same _ _ _ _ security.security-allowed.ensures life.life-allowed.ensures) refl refl
+    ∙ same_checks {f = true} {g = true} amount.amount_allowed.ensures (and_same _ _ _ _ side.side_known.ensures goods.goods_known.ensures) step.step_allowed.ensures currency.currency_allowed.ensures (and_same _ _ _ _ security.security_allowed.ensures life.life_allowed.ensures) refl refl
 
-pub check-spec : {M : Type 1} → statement M
-check-spec =
+pub check_spec : {M : Type 1} → statement M
+check_spec =
     tie.close
     (tie.spec
     amount-allowed-requires

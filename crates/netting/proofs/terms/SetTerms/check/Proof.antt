@@ -7,19 +7,19 @@ use Rattle.netting.specs.Terms.{set_terms_refusal, set_terms_tests}
 use Rattle.netting.proofs.terms.SetTerms.check.Statement.{statement}
 use Rattle.netting.proofs.terms.SetTerms.check.Tie as tie
 
-table-known-requires : tie.Need-table-known-requires
+table-known-requires : tie.Need-table_known-requires
 table-known-requires c κs = tt
 
-counterparty-known-requires : tie.Need-counterparty-known-requires
+counterparty-known-requires : tie.Need-counterparty_known-requires
 counterparty-known-requires c κs = tt
 
-steps-allowed-requires : tie.Need-steps-allowed-requires
+steps-allowed-requires : tie.Need-steps_allowed-requires
 steps-allowed-requires c κs = tt
 
-currency-allowed-requires : tie.Need-currency-allowed-requires
+currency-allowed-requires : tie.Need-currency_allowed-requires
 currency-allowed-requires c κs = tt
 
-interval-allowed-requires : tie.Need-interval-allowed-requires
+interval-allowed-requires : tie.Need-interval_allowed-requires
 interval-allowed-requires c κs = tt
 
 answer-requires : tie.Need-answer-requires
@@ -34,10 +34,10 @@ returns c =
     let class = steps.before in
     let table = class.before in
     c.answer.ensures
-    ∙ same_checks {a = true} {f = true} {g = true} refl (and_same _ _ _ _ table.table-known.ensures class.counterparty-known.ensures) steps.steps-allowed.ensures currency.currency-allowed.ensures interval.interval-allowed.ensures refl refl
+    ∙ same_checks {a = true} {f = true} {g = true} refl (and_same _ _ _ _ table.table_known.ensures class.counterparty_known.ensures) steps.steps_allowed.ensures currency.currency_allowed.ensures interval.interval_allowed.ensures refl refl
 
-pub check-spec : {M : Type 1} → statement M
-check-spec =
+pub check_spec : {M : Type 1} → statement M
+check_spec =
     tie.close
     (tie.spec
     table-known-requires

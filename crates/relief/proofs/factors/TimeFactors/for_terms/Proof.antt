@@ -9,35 +9,35 @@ use Rattle.relief.proofs.factors.TimeFactors.for_terms.Tie as tie
 plain : (c : tie.Start) → PlainTerms c.args.terms
 plain c = plain_terms c.args.terms c.requires.0
 
-holding-period-requires : tie.Need-holding-period-requires
+holding-period-requires : tie.Need-holding_period-requires
 holding-period-requires c κs = (plain c.before.before).interval
 
-for-period-requires : tie.Need-for-period-requires
+for-period-requires : tie.Need-for_period-deal-requires
 for-period-requires c κs =
     let s = c.before.before.before in
-    (omega (arith, c.holding-period.ensures, period_bound s.args.terms.kind s.args.terms.interval, (plain s).interval), s.requires.1.0)
+    (omega (arith, c.holding_period.ensures, period_bound s.args.terms.kind s.args.terms.interval, (plain s).interval), s.requires.1.0)
 
-guarantee-period-requires : tie.Need-guarantee-period-requires
+guarantee-period-requires : tie.Need-guarantee_period-requires
 guarantee-period-requires c κs = (plain c.before.before.before.before).interval.1
 
-for-period-requires-2 : tie.Need-for-period-requires-2
+for-period-requires-2 : tie.Need-for_period-guarantees-requires
 for-period-requires-2 c κs =
     let s = c.before.before.before.before.before in
-    (omega (arith, c.guarantee_period_lem.ensures, guarantee_bound s.args.terms.interval, (plain s).interval), s.requires.1.1)
+    (omega (arith, c.guarantee_period.ensures, guarantee_bound s.args.terms.interval, (plain s).interval), s.requires.1.1)
 
 returns : tie.Need-returns
 returns c =
     let g = c.before in
     let d = g.before in
     record {
-      deal_period = d.for-period.ensures.0 ∙ d.before.holding-period.ensures;
-      deal_factor = d.for-period.ensures.1;
-      guarantee_period_lem = c.for-period2.ensures.0 ∙ g.guarantee_period_lem.ensures;
-      guarantee_factor = c.for-period2.ensures.1;
+      deal_period = d.for_period-deal.ensures.0 ∙ d.before.holding_period.ensures;
+      deal_factor = d.for_period-deal.ensures.1;
+      guarantee_period_lem = c.for_period-guarantees.ensures.0 ∙ g.guarantee_period.ensures;
+      guarantee_factor = c.for_period-guarantees.ensures.1;
     }
 
-pub for-terms-spec : {M : Type 1} → statement M
-for-terms-spec =
+pub for_terms_spec : {M : Type 1} → statement M
+for_terms_spec =
     tie.close
     (tie.spec
     holding-period-requires

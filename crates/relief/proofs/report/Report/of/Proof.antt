@@ -2,7 +2,7 @@
 use mathlib.Core.Path.{◌≡◌, sym, ap, ◌∙◌}
 use mathlib.Core.Bool.{true, false}
 use mathlib.Core.List.{[], map}
-use Rattle.base.proofs.Tests.{not_true, not_false, told_not_true, told_not_false}
+use Rattle.base.proofs.Tests.{not_true, not_false, told_true, told_false}
 use Rattle.base.specs.FirstMet.{first_or}
 use Rattle.base.proofs.FirstMet.{met_first, not_met}
 use Rattle.scaling.proofs.Below.{factor_none}
@@ -30,31 +30,31 @@ by_number : (d : Deal) (r : Report) → r ≡ report_of d →
 by_number d r e =
     (ap (λ x. map (λ p. place_of p.outcome) x.collateral) e ∙ collateral_by_number_lem d, ap (λ x. map (λ p. place_of p.outcome) x.guarantees) e ∙ guarantees_by_number_lem d)
 
-returns : tie.Need-returns
+returns : tie.Need-returns-then-not-accepted
 unfolding report_refusal answer_number
 returns c =
     let a = c.before.before in
     let d = a.before.args.deal in
-    let e : accepted d ≡ false = told_not_false _ _ a.accepted.ensures c.before.if1.true in
+    let e : accepted d ≡ false = told_false _ _ a.accepted.ensures c.before.if-not-accepted.true in
     let r = c.refused.ensures ∙ sym (report_refused _ d e) in
     ((ap (λ x. answer_number x.answer) c.refused.ensures ∙ sym (met_first 40 _ [] (not_true _ e)), r), by_number d _ r)
 
-is-accepted : (c : tie.Else1) → accepted c.before.before.args.deal ≡ true
-is-accepted c = told_not_true _ _ c.before.accepted.ensures c.if1.false
+is-accepted : (c : tie.Else-not-accepted) → accepted c.before.before.args.deal ≡ true
+is-accepted c = told_true _ _ c.before.accepted.ensures c.if-not-accepted.false
 
-for-terms-requires : tie.Need-for-terms-requires
+for-terms-requires : tie.Need-for_terms-factors-requires
 for-terms-requires c κs = ((allowed_parts _ (accepted_allowed _ (is-accepted c.before.before.before))).0, (factor_none, factor_none))
 
-full-report-requires : tie.Need-full-report-requires
-full-report-requires c κs = (is-accepted c.before.before.before.before, c.for-terms.ensures)
+full-report-requires : tie.Need-full_report-requires
+full-report-requires c κs = (is-accepted c.before.before.before.before, c.for_terms-factors.ensures)
 
-returns-2 : tie.Need-returns-2
+returns-2 : tie.Need-returns
 unfolding report_refusal full_report answer_number first_or
 returns-2 c =
     let e = is-accepted c.before.before.before.before.before in
     let d = c.before.before.before.before.before.before.before.args.deal in
-    let r = c.full-report.ensures ∙ sym (report_accepted _ d e) in
-    ((ap (λ x. answer_number x.answer) c.full-report.ensures ∙ sym (not_met 40 _ [] (not_false _ e)), r), by_number d _ r)
+    let r = c.full_report.ensures ∙ sym (report_accepted _ d e) in
+    ((ap (λ x. answer_number x.answer) c.full_report.ensures ∙ sym (not_met 40 _ [] (not_false _ e)), r), by_number d _ r)
 
 pub of_spec : {M : Type 1} → statement M
 of_spec =

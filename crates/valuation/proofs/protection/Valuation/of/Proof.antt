@@ -9,32 +9,32 @@ use Rattle.valuation.specs.Valuation.{valuation_of}
 use Rattle.valuation.proofs.protection.Valuation.of.Statement.{statement}
 use Rattle.valuation.proofs.protection.Valuation.of.Tie as tie
 
-volatility-adjusted-value-requires : tie.Need-volatility-adjusted-value-requires
+volatility-adjusted-value-requires : tie.Need-volatility_adjusted_value-adjusted-requires
 volatility-adjusted-value-requires c κs = search tests
 
-maturity-adjusted-requires : tie.Need-maturity-adjusted-requires
-maturity-adjusted-requires c κs = omega (arith, adjusted_value_le c.before.args.uncut c.before.args.haircut, c.volatility-adjusted-value.ensures)
+maturity-adjusted-requires : tie.Need-maturity_adjusted-value-requires
+maturity-adjusted-requires c κs = omega (arith, adjusted_value_le c.before.args.uncut c.before.args.haircut, c.volatility_adjusted_value-adjusted.ensures)
 
 -- what the steps leave
-module _ (c : tie.After-maturity-adjusted) where
+module _ (c : tie.After-maturity_adjusted-value) where
   abbrev start : tie.Start
   start = c.before.before
 
-  adjusted-is : c.before.volatility-adjusted-value.result ≡ volatility_adjusted_value start.args.uncut start.args.haircut
-  adjusted-is = c.before.volatility-adjusted-value.ensures
+  adjusted-is : c.before.volatility_adjusted_value-adjusted.result ≡ volatility_adjusted_value start.args.uncut start.args.haircut
+  adjusted-is = c.before.volatility_adjusted_value-adjusted.ensures
 
-  value-is : c.maturity-adjusted.result ≡ recognised start.args.uncut start.args.haircut start.args.cover start.args.term
+  value-is : c.maturity_adjusted-value.result ≡ recognised start.args.uncut start.args.haircut start.args.cover start.args.term
   unfolding recognised
-  value-is = c.maturity-adjusted.ensures ∙ ap (λ (v : ℕ). maturity_adjusted v start.args.cover start.args.term) adjusted-is
+  value-is = c.maturity_adjusted-value.ensures ∙ ap (λ (v : ℕ). maturity_adjusted v start.args.cover start.args.term) adjusted-is
 
-sub-haircut-loss : tie.Need-overflow-sub-haircut-loss
+sub-haircut-loss : tie.Need-overflow_sub-haircut_loss
 sub-haircut-loss c = omega (arith, adjusted-is c, adjusted_value_le (start c).args.uncut (start c).args.haircut)
 
-sub-maturity-loss : tie.Need-overflow-sub-maturity-loss
+sub-maturity-loss : tie.Need-overflow_sub-maturity_loss
 sub-maturity-loss c =
-    omega (arith, c.maturity-adjusted.ensures, maturity_adjusted_le c.before.volatility-adjusted-value.result (start c).args.cover (start c).args.term)
+    omega (arith, c.maturity_adjusted-value.ensures, maturity_adjusted_le c.before.volatility_adjusted_value-adjusted.result (start c).args.cover (start c).args.term)
 
-sub-cut-loss : tie.Need-overflow-sub-cut-loss
+sub-cut-loss : tie.Need-overflow_sub-cut_loss
 sub-cut-loss c = search tests
 
 returns : tie.Need-returns
