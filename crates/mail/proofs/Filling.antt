@@ -274,12 +274,12 @@ module _ (book buffer₀ list₀ buffer list : List ℕ) (filled : Filled) (f : 
 
   -- at the start of the book its first line is left
   module _ (z : filled.place.at ≡ 0) where
-    first_line : filled.line ≡ 1
-    first_line = let h = rw z at f.numbered in omega (arith, h)
+    first_line_lem : filled.line ≡ 1
+    first_line_lem = let h = rw z at f.numbered in omega (arith, h)
 
     all_numbers : (if not filled.place.altered then later_numbers (suc filled.line) text else filled.line ∷ later_numbers (suc filled.line) text) ≡ numbers_of 1 book
     unfolding if◌then◌else◌
-    all_numbers = rw (first_line, z) (go filled.place.altered (rw z at f.ahead.changing) ∙ sym (numbers_first 1 book))
+    all_numbers = rw (first_line_lem, z) (go filled.place.altered (rw z at f.ahead.changing) ∙ sym (numbers_first 1 book))
       where
         go : (t : Bool) → t ≡ changed (first_line book)
             → (if not t then later_numbers 2 book else 1 ∷ later_numbers 2 book) ≡ (if changed (first_line book) then 1 ∷ later_numbers 2 book else later_numbers 2 book)

@@ -13,7 +13,7 @@ returns : tie.Need-returns-then-book-gt-BOOK_LIMIT
 returns c =
     let a = c.before.before.before.before.before.args in
     rw c.refused.ensures
-    (refused_outcome a.book.now a.buffer-1.now a.list-1.now 10 refl (too_long a.book.now _ _ (omega (arith, c.before.if-book-gt-BOOK_LIMIT.true))))
+    (refused_outcome a.book.now a.buffer.now a.list.now 10 refl (too_long a.book.now _ _ (omega (arith, c.before.if-book-gt-BOOK_LIMIT.true))))
 
 measure-requires : tie.Need-measure-sizes-requires
 measure-requires c κs = search rules
@@ -28,8 +28,8 @@ returns-2 : tie.Need-returns-then-buffer-bytes
 returns-2 c =
     let a = c.before.before.before.before.before.before.before.before.args in
     let m = c.before.before.before in
-    let r = buffer_short a.book.now a.buffer-1.now a.list-1.now (omega (arith, m.before.if-book-gt-BOOK_LIMIT.false)) (omega (arith, m.measure-sizes.ensures.bytes, c.before.if-buffer-bytes.true)) in
-    rw c.refused-then-buffer-bytes.ensures (refused_outcome a.book.now a.buffer-1.now a.list-1.now 20 refl r)
+    let r = buffer_short a.book.now a.buffer.now a.list.now (omega (arith, m.before.if-book-gt-BOOK_LIMIT.false)) (omega (arith, m.measure-sizes.ensures.bytes, c.before.if-buffer-bytes.true)) in
+    rw c.refused-then-buffer-bytes.ensures (refused_outcome a.book.now a.buffer.now a.list.now 20 refl r)
 
 refused-requires-3 : tie.Need-refused-requires-then-list-sizes
 refused-requires-3 c κs = search rules
@@ -39,8 +39,8 @@ returns-3 c =
     let a = c.before.before.before.before.before.before.before.before.before.before.args in
     let m = c.before.before.before.before.before in
     let r =
-    list_short a.book.now a.buffer-1.now a.list-1.now (omega (arith, m.before.if-book-gt-BOOK_LIMIT.false)) (omega (arith, m.measure-sizes.ensures.bytes, c.before.before.before.if-buffer-bytes.false)) (omega (arith, m.measure-sizes.ensures.lines, c.before.if-list-sizes.true)) in
-    rw c.refused-then-list-sizes.ensures (refused_outcome a.book.now a.buffer-1.now a.list-1.now 41 refl r)
+    list_short a.book.now a.buffer.now a.list.now (omega (arith, m.before.if-book-gt-BOOK_LIMIT.false)) (omega (arith, m.measure-sizes.ensures.bytes, c.before.before.before.if-buffer-bytes.false)) (omega (arith, m.measure-sizes.ensures.lines, c.before.if-list-sizes.true)) in
+    rw c.refused-then-list-sizes.ensures (refused_outcome a.book.now a.buffer.now a.list.now 41 refl r)
 
 write-requires : tie.Need-write-requires
 write-requires c κs = search rules
@@ -56,7 +56,7 @@ returns-4 c =
     let a = c.before.before.before.before.before.before.before.before.before.before.before.before.before.before.before.before.args in
     let m = c.before.before.before.before.before.before.before.before.before.before.before in
     let w = c.before.before.before.before in
-    accepted_outcome a.book.now a.buffer-1.now a.list-1.now (omega (arith, m.before.if-book-gt-BOOK_LIMIT.false)) (omega (arith, m.measure-sizes.ensures.bytes, c.before.before.before.before.before.before.before.before.before.if-buffer-bytes.false)) _ _ _ _
+    accepted_outcome a.book.now a.buffer.now a.list.now (omega (arith, m.before.if-book-gt-BOOK_LIMIT.false)) (omega (arith, m.measure-sizes.ensures.bytes, c.before.before.before.before.before.before.before.before.before.if-buffer-bytes.false)) _ _ _ _
     (omega (arith, m.measure-sizes.ensures.lines, c.before.before.before.before.before.before.before.if-list-sizes.false)) (omega (arith, m.measure-sizes.ensures.bytes)) m.measure-sizes.ensures.lines w.write.ensures.0 w.write.ensures.1
 
 pub repair_book_spec : {M : Type 1} → statement M

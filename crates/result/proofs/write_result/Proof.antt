@@ -34,7 +34,7 @@ module _ (refusal deals : ℕ) (results out : List ℕ) where
     unfolding written fits result_text
     refusal-alone e p = refused _ _ _ _ enough listed _ (heading ++ rows deals results) out after end e p
 
-returns : tie.Need-returns
+returns : tie.Need-returns-then-out-lt-LONGEST_REFUSAL
 returns c = too_short _ _ _ _ (omega arith)
 
 sub-if2 : tie.Need-overflow_sub-out
@@ -45,9 +45,6 @@ returns-2 c = too_short _ _ _ _ (omega arith)
 
 returns-3 : tie.Need-returns-then-results-deals
 returns-3 c = too_few _ _ _ _ (omega arith) (omega arith)
-
-slice-aggregate-put-bytes : tie.Need-slice-aggregate-put-bytes
-slice-aggregate-put-bytes c = search tests
 
 put-bytes-requires : tie.Need-put_bytes-start-requires
 put-bytes-requires c κs = search tests
@@ -86,7 +83,6 @@ write_result_spec =
     sub-if2
     returns-2
     returns-3
-    slice-aggregate-put-bytes
     put-bytes-requires
     put-rows-requires
     same_length

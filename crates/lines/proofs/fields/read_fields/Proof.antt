@@ -106,9 +106,8 @@ end : (c : tie.After-is_end invariant-loop decreases-loop)
 end c = rw rest_part at c.is_end.ensures
 
 next : (c : tie.In-Value invariant-loop decreases-loop)
-    → let l = c.before.before.before.before.before.before in
-    field_of (drop l.loop-k.at l.before.before.args.line.now) ≡ Value c.before.value-1.given.0.0 c.before.value-1.given.0.1.0
-next c = read c.before.before.before ∙ c.before.value-1.given.1
+    → field_of (drop c.loop-k.at c.args.line.now) ≡ Value c.in-Value.value c.in-Value.digits
+next c = read c.before ∙ c.in-Value.is
 
 loop-holds : tie.Need-loop-k-init invariant-loop decreases-loop
 loop-holds c =
@@ -135,10 +134,8 @@ unread-requires c κs = tt
 
 returns : tie.Need-returns-in-NoNumber invariant-loop decreases-loop
 returns c =
-    let r = c.before.before.before in
-    let l = r.before.before.before.loop-k in
     c.unread.ensures
-    ∙ ap fields_held (sym (bad _ _ _ _ _ l.invariant r.before.before.loop-k-test.true (read r ∙ c.before.enum_told-1.given.1)))
+    ∙ ap fields_held (sym (bad _ _ _ _ _ c.loop-k.invariant c.loop-k-test.true (read c.before.before ∙ c.in-NoNumber.is)))
 
 enum-known-value : tie.Need-enum_known-value invariant-loop decreases-loop
 enum-known-value c = search tests
@@ -150,10 +147,10 @@ array-write-values : tie.Need-bounds-values-k invariant-loop decreases-loop
 array-write-values c = omega arith
 
 add_at : tie.Need-overflow_add-at invariant-loop decreases-loop
-add_at c = omega (arith, below _ _ _ _ _ c.before.before.before.before.before.before.loop-k.invariant _ _ (next c))
+add_at c = omega (arith, below _ _ _ _ _ c.loop-k.invariant _ _ (next c))
 
 add-at-2 : tie.Need-overflow_add-at-in-Value invariant-loop decreases-loop
-add-at-2 c = omega (arith, below _ _ _ _ _ c.before.before.before.before.before.before.loop-k.invariant _ _ (next c))
+add-at-2 c = omega (arith, below _ _ _ _ _ c.loop-k.invariant _ _ (next c))
 
 add-k : tie.Need-overflow_add-k invariant-loop decreases-loop
 add-k c = omega arith
@@ -163,8 +160,7 @@ loop-less c = omega arith
 
 loop-again : tie.Need-loop-k-preserved invariant-loop decreases-loop
 loop-again c =
-    let b = c.before.before.before.before.before in
-    more _ _ _ _ _ b.before.loop-k.invariant _ _ (next c) _ b.loop-k-test.true b.before.before.before.requires (omega arith)
+    more _ _ _ _ _ c.loop-k.invariant _ _ (next c) _ c.loop-k-test.true c.requires (omega arith)
 
 sub-is-end : tie.Need-slice_bounds-is_end-count invariant-loop decreases-loop
 sub-is-end c = omega arith

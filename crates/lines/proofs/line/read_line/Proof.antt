@@ -75,10 +75,10 @@ deal-line-requires c κs = tt
 sub-read-fields-2 : tie.Need-slice_bounds-read_fields-count-in-67
 sub-read-fields-2 c = omega arith
 
-part-read-fields-start-2 : tie.Need-slice-bounds-read-fields-start-2
+part-read-fields-start-2 : tie.Need-slice_bounds-read_fields-start-in-67
 part-read-fields-start-2 c = omega arith
 
-part-read-fields-end-2 : tie.Need-slice-bounds-read-fields-end-2
+part-read-fields-end-2 : tie.Need-slice_bounds-read_fields-end-in-67
 part-read-fields-end-2 c = omega arith
 
 read-fields-requires-2 : tie.Need-read_fields-requires-in-67
@@ -93,10 +93,10 @@ width-under-requires-2 c κs = omega arith
 sub-read-fields-3 : tie.Need-slice_bounds-read_fields-count-in-71
 sub-read-fields-3 c = omega arith
 
-part-read-fields-start-3 : tie.Need-slice-bounds-read-fields-start-3
+part-read-fields-start-3 : tie.Need-slice_bounds-read_fields-start-in-71
 part-read-fields-start-3 c = omega arith
 
-part-read-fields-end-3 : tie.Need-slice-bounds-read-fields-end-3
+part-read-fields-end-3 : tie.Need-slice_bounds-read_fields-end-in-71
 part-read-fields-end-3 c = omega arith
 
 read-fields-requires-3 : tie.Need-read_fields-requires-in-71
@@ -137,7 +137,7 @@ returns-5 c =
 
 returns-6 : tie.Need-returns-in_default
 returns-6 c =
-    let r = c.in_default.rest in
+    let r = c.in_default.in_default-own.rest in
     sym (other _ _ r.0.0.0.1 r.0.0.1 r.0.1 r.1)
 
 pub read_line_spec : {M : Type 1} → statement M

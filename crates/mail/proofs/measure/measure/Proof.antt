@@ -4,10 +4,6 @@ use native.Mathlib.Omega.{arith}
 use Rattle.mail.proofs.Sizing.{few_altered, none_passed, all_passed}
 use Rattle.mail.proofs.measure.measure.Statement.{statement}
 use Rattle.mail.proofs.measure.measure.Tie as tie
-use Rattle.mail.proofs.measure.measure.Reads as reads
-use Rattle.mail.proofs.measure.measure.Lts as lts
-use Rattle.mail.proofs.measure.one_more.Reads as one-more-reads
-use Rattle.mail.proofs.measure.pass.Reads as pass-reads
 
 abbrev invariant-loop : tie.invariant-loop-passed
 invariant-loop book passed₀ passed = Measuring book passed.place passed.sizes

@@ -15,7 +15,7 @@ sub-bytes : tie.Need-overflow_sub-bytes invariant-loop decreases-loop
 sub-bytes c = omega (arith, c.before.before.before.before.requires.measured.bytes)
 
 add-line : tie.Need-overflow_add-line invariant-loop decreases-loop
-add-line c = let p = c.before.before.before.before.requires in omega (arith, p.decreases.few_feeds, p.limit)
+add-line c = let p = c.before.before.before.before.requires in omega (arith, p.measured.few_feeds, p.limit)
 
 loop-holds : tie.Need-loop-filled-init invariant-loop decreases-loop
 loop-holds c = fill_start _ _ _ _ c.before.before.before.before.requires

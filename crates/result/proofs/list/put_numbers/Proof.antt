@@ -62,7 +62,7 @@ loop-again : tie.Need-loop-i-preserved invariant-loop decreases-loop
 loop-again c =
     let p = c.before.before in
     let l = p.before.before.before.before in
-    further _ _ _ _ _ _ _ l.loop-i.invariant _ _ (omega arith) (omega (arith, l.before.before.before.requires)) p.put_field-place.auto.0 p.put_field-place.ensures
+    further _ _ _ _ _ _ _ l.loop-i.invariant _ _ (omega arith) (omega (arith, l.before.before.before.requires)) p.put_field-place.auto.out p.put_field-place.ensures
 
 same_length : tie.Need-shape_of-out invariant-loop decreases-loop
 same_length c = search tests

@@ -6,9 +6,6 @@ use Rattle.result.specs.Result.{refused_heading}
 use Rattle.result.proofs.refusal.put_refusal.Statement.{statement}
 use Rattle.result.proofs.refusal.put_refusal.Tie as tie
 
-slice-aggregate-put-bytes : tie.Need-slice-aggregate-put-bytes
-slice-aggregate-put-bytes c = search tests
-
 put-bytes-requires : tie.Need-put_bytes-start-requires
 put-bytes-requires c κs = search tests
 
@@ -27,4 +24,4 @@ returns c =
 pub put_refusal_spec : {M : Type 1} → statement M
 put_refusal_spec =
     tie.close
-    (tie.spec slice-aggregate-put-bytes put-bytes-requires put-field-requires same_length returns)
+    (tie.spec put-bytes-requires put-field-requires same_length returns)

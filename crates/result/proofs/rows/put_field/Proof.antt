@@ -12,7 +12,7 @@ put-number-requires c κs = search tests
 put-byte-requires : tie.Need-put_byte-requires
 put-byte-requires c κs =
     let n = c.before.before.before in
-    omega (arith, n.put_number-end.ensures.ends, n.put_number-end.auto.0, number_short n.before.before.before.args.n, n.before.before.before.requires)
+    omega (arith, n.put_number-end.ensures.ends, n.put_number-end.auto.out, number_short n.before.before.before.args.n, n.before.before.before.requires)
 
 same_length : tie.Need-shape_of-out
 same_length c = search tests

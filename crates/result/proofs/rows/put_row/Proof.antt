@@ -10,22 +10,22 @@ use Rattle.result.proofs.rows.put_row.Statement.{statement}
 use Rattle.result.proofs.rows.put_row.Tie as tie
 
 -- room for the fields that follow
-room1 : (c : tie.After-put_field-second) → c.put_field-second.result + 63 ≤ length c.put_field-second.new.0
+room1 : (c : tie.After-put_field-second) → c.put_field-second.result + 63 ≤ length c.put_field-second.new.out
 room1 c =
     let s = c.before.before.before.before.before in
-    omega (arith, s.requires, c.put_field-second.ensures.ends, c.put_field-second.auto.0, field_short (get_or s.args.results.now s.args.first 0) tab)
+    omega (arith, s.requires, c.put_field-second.ensures.ends, c.put_field-second.auto.out, field_short (get_or s.args.results.now s.args.first 0) tab)
 
-room2 : (c : tie.After-put_field-third) → c.put_field-third.result + 42 ≤ length c.put_field-third.new.0
+room2 : (c : tie.After-put_field-third) → c.put_field-third.result + 42 ≤ length c.put_field-third.new.out
 room2 c =
     let f = c.before.before.before.before.before in
     let s = f.before.before.before.before.before in
-    omega (arith, room1 f, c.put_field-third.ensures.ends, c.put_field-third.auto.0, field_short (get_or s.args.results.now (s.args.first + 1) 0) tab)
+    omega (arith, room1 f, c.put_field-third.ensures.ends, c.put_field-third.auto.out, field_short (get_or s.args.results.now (s.args.first + 1) 0) tab)
 
-room3 : (c : tie.After-put_field-fourth) → c.put_field-fourth.result + 21 ≤ length c.put_field-fourth.new.0
+room3 : (c : tie.After-put_field-fourth) → c.put_field-fourth.result + 21 ≤ length c.put_field-fourth.new.out
 room3 c =
     let f = c.before.before.before.before.before in
     let s = f.before.before.before.before.before.before.before.before.before.before in
-    omega (arith, room2 f, c.put_field-fourth.ensures.ends, c.put_field-fourth.auto.0, field_short (get_or s.args.results.now (s.args.first + 2) 0) tab)
+    omega (arith, room2 f, c.put_field-fourth.ensures.ends, c.put_field-fourth.auto.out, field_short (get_or s.args.results.now (s.args.first + 2) 0) tab)
 
 mul-put-field : tie.Need-offset_bounds-results-first
 mul-put-field c = search tests

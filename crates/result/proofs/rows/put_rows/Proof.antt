@@ -65,7 +65,7 @@ loop-again : tie.Need-loop-deal-preserved invariant-loop decreases-loop
 loop-again c =
     let p = c.before.before in
     let l = p.before.before.before in
-    further _ _ _ _ _ _ _ _ l.loop-deal.invariant _ _ _ (omega arith) (omega (arith, l.before.before.before.requires)) (omega arith) p.put_row-place.auto.0 p.put_row-place.ensures
+    further _ _ _ _ _ _ _ _ l.loop-deal.invariant _ _ _ (omega arith) (omega (arith, l.before.before.before.requires)) (omega arith) p.put_row-place.auto.out p.put_row-place.ensures
 
 same_length : tie.Need-shape_of-out invariant-loop decreases-loop
 same_length c = search tests
