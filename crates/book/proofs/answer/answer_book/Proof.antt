@@ -21,29 +21,29 @@ use Rattle.book.proofs.Refusing.{heading_long, second_wrong, reply_refusal, acce
 use Rattle.book.proofs.answer.answer_book.Statement.{statement}
 use Rattle.book.proofs.answer.answer_book.Tie as tie
 
-reply-to-requires : tie.Need-reply-to-requires
+reply-to-requires : tie.Need-reply_to-reply-requires
 reply-to-requires c κs = tt
 
-module _ (c : tie.After-reply-to) where
+module _ (c : tie.After-reply_to-reply) where
   abbrev book₁ : List ℕ
   book₁ = c.before.before.before.args.book.now
 
   abbrev before₁ : List ℕ
   before₁ = c.before.before.before.args.results.now
 
-  refusal₁ : book_refusal book₁ (length before₁) ≡ c.reply-to.result.refusal
-  refusal₁ = sym (reply_refusal book₁ (length before₁)) ∙ ap (λ r. r.refusal) (sym c.reply-to.ensures)
+  refusal₁ : book_refusal book₁ (length before₁) ≡ c.reply_to-reply.result.refusal
+  refusal₁ = sym (reply_refusal book₁ (length before₁)) ∙ ap (λ r. r.refusal) (sym c.reply_to-reply.ensures)
 
-returns : tie.Need-returns
+returns : tie.Need-returns-then-reply-ne0
 returns c =
     let r = c.before.before in
-    (r.reply-to.ensures, sym (refused_results (book₁ r) (before₁ r) (ap (λ n. eqb n 0) (refusal₁ r) ∙ ne_eqb _ _ c.if1.true)))
+    (r.reply_to-reply.ensures, sym (refused_results (book₁ r) (before₁ r) (ap (λ n. eqb n 0) (refusal₁ r) ∙ ne_eqb _ _ c.if-reply-ne0.true)))
 
-line-end-requires : tie.Need-line-end-requires
+line-end-requires : tie.Need-line_end-at-requires
 line-end-requires c κs = omega arith
 
 -- what an accepted book has
-module _ (c : tie.After-line-end) where
+module _ (c : tie.After-line_end-at) where
   abbrev book₂ : List ℕ
   book₂ = book₁ c.before.before.before
 
@@ -51,7 +51,7 @@ module _ (c : tie.After-line-end) where
   places₂ = length (before₁ c.before.before.before)
 
   accepted : book_refusal book₂ places₂ ≡ 0
-  accepted = refusal₁ c.before.before.before ∙ c.before.if1.false
+  accepted = refusal₁ c.before.before.before ∙ c.before.if-reply-ne0.false
 
   short : length book₂ ≤ book_limit
   unfolding book_tests
@@ -65,20 +65,20 @@ module _ (c : tie.After-line-end) where
   unfolding book_tests
   begins = sym (second_wrong (text_behind book₂)) ∙ (accepted_tests book₂ places₂ accepted).1.1.0
 
-  ends : c.line-end.result ≡ length (first_line book₂)
-  ends = omega (arith, c.line-end.ensures)
+  ends : c.line_end-at.result ≡ length (first_line book₂)
+  ends = omega (arith, c.line_end-at.ensures)
 
-  inside : c.line-end.result ≤ length book₂
+  inside : c.line_end-at.result ≤ length book₂
   inside = omega (arith, ends, first_inside book₂)
 
   -- what is handed on
-  behind : take (length book₂ - c.line-end.result) (drop c.line-end.result book₂) ≡ text_behind book₂
+  behind : take (length book₂ - c.line_end-at.result) (drop c.line_end-at.result book₂) ≡ text_behind book₂
   behind = rest_part book₂ _ ∙ ap (λ n. drop n book₂) ends
 
-slice-aggregate-read-heading : tie.Need-slice-aggregate-read-heading
+slice-aggregate-read-heading : tie.Need-slice_bounds-read_heading-end
 slice-aggregate-read-heading c = sym (length-take-le _ _ (inside c.before))
 
-read-heading-requires : tie.Need-read-heading-requires
+read-heading-requires : tie.Need-read_heading-heading-requires
 read-heading-requires c κs = tt
 
 edition-requires : tie.Need-edition-requires
@@ -89,40 +89,40 @@ headed : (c : tie.After-edition) → c.edition.result ≡ book_edition (book₂ 
 headed c =
     let e = c.before.before.before in
     let line = ap (λ n. take n (book₂ e)) (ends e) ∙ first_taken (book₂ e) in
-    c.edition.ensures ∙ ap edition_of (c.before.read-heading.ensures ∙ ap heading_of line)
+    c.edition.ensures ∙ ap edition_of (c.before.read_heading-heading.ensures ∙ ap heading_of line)
 
-sub-answer-deals : tie.Need-overflow-sub-answer-deals
+sub-answer-deals : tie.Need-slice_bounds-answer_deals-count
 sub-answer-deals c = inside c.before.before.before
 
-part-answer-deals-start : tie.Need-slice-bounds-answer-deals-start
+part-answer-deals-start : tie.Need-slice_bounds-answer_deals-start
 part-answer-deals-start c = search (tests, inside c.before.before.before)
 
-part-answer-deals-end : tie.Need-slice-bounds-answer-deals-end
+part-answer-deals-end : tie.Need-slice_bounds-answer_deals-end
 part-answer-deals-end c = search tests
 
-answer-deals-requires : tie.Need-answer-deals-requires
+answer-deals-requires : tie.Need-answer_deals-requires
 answer-deals-requires c κs =
     let e = c.before.before.before.before.before in
     let l = length-drop (length (first_line (book₂ e))) (book₂ e) in
     rw (behind e) (begins e, (omega (arith, l, short e, long e), enough (book₂ e) (places₂ e) (accepted e)))
 
-same_length : tie.Need-same-length
+same_length : tie.Need-shape_of-results
 same_length c = search tests
 
-returns-2 : tie.Need-returns-2
+returns-2 : tie.Need-returns
 returns-2 c =
     let h = c.before.before.before.before.before in
     let e = h.before.before.before in
     let r = e.before.before.before in (
-      r.reply-to.ensures,
-      c.before.before.answer-deals.ensures
-          ∙ ap (λ edition. overwrite (answers_from edition 1 (deals_from 2 (lines_of (take (length (book₂ e) - e.line-end.result) (drop e.line-end.result (book₂ e)))))) (before₁ r)) (headed h)
+      r.reply_to-reply.ensures,
+      c.before.before.answer_deals.ensures
+          ∙ ap (λ edition. overwrite (answers_from edition 1 (deals_from 2 (lines_of (take (length (book₂ e) - e.line_end-at.result) (drop e.line_end-at.result (book₂ e)))))) (before₁ r)) (headed h)
           ∙ ap (λ text. overwrite (answers_from (book_edition (book₁ r)) 1 (deals_from 2 (lines_of text))) (before₁ r)) (behind e)
           ∙ sym (accepted_results (book₁ r) (before₁ r) (accepted e)),
     )
 
-pub answer-book-spec : {M : Type 1} → statement M
-answer-book-spec =
+pub answer_book_spec : {M : Type 1} → statement M
+answer_book_spec =
     tie.close
     (tie.spec
     reply-to-requires

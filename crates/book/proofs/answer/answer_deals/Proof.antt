@@ -33,10 +33,10 @@ record Holds (edition : ℕ) (lines before results : List ℕ) (at number deals 
   same : length results ≡ length before
   room : (deals + length (toCome lines at number)) * 4 ≤ length before
 
-abbrev invariant-loop : tie.invariant-loop
+abbrev invariant-loop : tie.invariant-loop-at
 invariant-loop edition lines results₀ at₀ number₀ factors₀ deals₀ results at number factors deals = Holds edition lines results₀ results at number deals × BothTimeFactors factors
 
-abbrev decreases-loop : tie.decreases-loop
+abbrev decreases-loop : tie.decreases-loop-at
 decreases-loop edition lines results₀ at₀ number₀ factors₀ deals₀ results at number factors deals = length lines - at
 
 -- one deal more
@@ -110,33 +110,33 @@ module _
       }
 
 -- first the deal that was read, which starts where the one before it ends, and that its numbers are small
-module _ (c : tie.After-answer-deal invariant-loop decreases-loop) where
+module _ (c : tie.After-answer_deal-answered invariant-loop decreases-loop) where
   abbrev lines₁ : List ℕ
   lines₁ = c.before.before.before.before.before.before.args.lines.now
 
   abbrev at₁ : ℕ
-  at₁ = c.before.before.before.loop.at
+  at₁ = c.before.before.before.loop-at.at
 
   abbrev edition₁ : ℕ
   edition₁ = c.before.before.before.before.before.before.args.edition
 
-  answered₁ : deal_answer edition₁ (first_deal c.before.before.before.loop.number (drop at₁ lines₁))
-      ≡ c.answer-deal.result.answer.refusal ∷ c.answer-deal.result.answer.figure ∷ c.answer-deal.result.answer.rwa ∷ []
-  answered₁ = ap (λ t. deal_answer edition₁ (first_deal c.before.before.before.loop.number t)) (sym (rest_part lines₁ at₁)) ∙ c.answer-deal.ensures.0.1
+  answered₁ : deal_answer edition₁ (first_deal c.before.before.before.loop-at.number (drop at₁ lines₁))
+      ≡ c.answer_deal-answered.result.answer.refusal ∷ c.answer_deal-answered.result.answer.figure ∷ c.answer_deal-answered.result.answer.rwa ∷ []
+  answered₁ = ap (λ t. deal_answer edition₁ (first_deal c.before.before.before.loop-at.number t)) (sym (rest_part lines₁ at₁)) ∙ c.answer_deal-answered.ensures.0.1
 
-  read₁ : DealRead c.before.before.before.loop.number (drop at₁ lines₁) c.answer-deal.result.answer.end c.answer-deal.result.answer.next
-  read₁ = rw (rest_part lines₁ at₁) at c.answer-deal.ensures.0.0
+  read₁ : DealRead c.before.before.before.loop-at.number (drop at₁ lines₁) c.answer_deal-answered.result.answer.end c.answer_deal-answered.result.answer.next
+  read₁ = rw (rest_part lines₁ at₁) at c.answer_deal-answered.ensures.0.0
 
-  small : (c.before.before.before.loop.deals ≤ 65534) × ((at₁ + c.answer-deal.result.answer.end ≤ 65534) × (1 ≤ c.answer-deal.result.answer.end))
+  small : (c.before.before.before.loop-at.deals ≤ 65534) × ((at₁ + c.answer_deal-answered.result.answer.end ≤ 65534) × (1 ≤ c.answer_deal-answered.result.answer.end))
   small =
-      let l = c.before.before.before.loop in
+      let l = c.before.before.before.loop-at in
       let p = c.before.before.before.before.before.before.requires.1.0 in
       let long = length-drop at₁ lines₁ in (
         omega (arith, l.invariant.0.few, l.invariant.0.inside, p),
-        (omega (arith, read₁.inside, long, c.before.before.loop-test.true, p), read₁.some),
+        (omega (arith, read₁.inside, long, c.before.before.loop-at-test.true, p), read₁.some),
       )
 
-loop-holds : tie.Need-loop-init invariant-loop decreases-loop
+loop-holds : tie.Need-loop-at-init invariant-loop decreases-loop
 loop-holds c =
     let p = c.before.before.requires in (
       record {
@@ -152,76 +152,76 @@ loop-holds c =
       (factor_none, factor_none),
     )
 
-sub-answer-deal : tie.Need-overflow-sub-answer-deal invariant-loop decreases-loop
+sub-answer-deal : tie.Need-slice_bounds-answer_deal-count invariant-loop decreases-loop
 sub-answer-deal c = search tests
 
-part-answer-deal-start : tie.Need-slice-bounds-answer-deal-start invariant-loop decreases-loop
+part-answer-deal-start : tie.Need-slice_bounds-answer_deal-start invariant-loop decreases-loop
 part-answer-deal-start c = search tests
 
-part-answer-deal-end : tie.Need-slice-bounds-answer-deal-end invariant-loop decreases-loop
+part-answer-deal-end : tie.Need-slice_bounds-answer_deal-end invariant-loop decreases-loop
 part-answer-deal-end c = search tests
 
-answer-deal-requires : tie.Need-answer-deal-requires invariant-loop decreases-loop
+answer-deal-requires : tie.Need-answer_deal-answered-requires invariant-loop decreases-loop
 answer-deal-requires c κs =
-    let l = c.before.before.loop in
+    let l = c.before.before.loop-at in
     let lines = c.before.before.before.before.before.args.lines.now in
     let part = rest_part lines l.at in
     let long = length-drop l.at lines in
-    let h : 1 ≤ length (drop l.at lines) = omega (arith, long, c.before.loop-test.true) in (
+    let h : 1 ≤ length (drop l.at lines) = omega (arith, long, c.before.loop-at-test.true) in (
       (
         ap opens_deal part ∙ own_opens (drop l.at lines) l.invariant.0.begins h,
-        omega (arith, ap length part, long, l.invariant.0.numbered, c.before.before.before.before.before.requires.1.0, c.before.loop-test.true),
+        omega (arith, ap length part, long, l.invariant.0.numbered, c.before.before.before.before.before.requires.1.0, c.before.loop-at-test.true),
       ),
       l.invariant.1,
     )
 
-mul-put-answer : tie.Need-overflow-mul-put-answer invariant-loop decreases-loop
+mul-put-answer : tie.Need-overflow_mul-deals invariant-loop decreases-loop
 mul-put-answer c = search (tests, small c.before.before)
 
-add-put-answer : tie.Need-overflow-add-put-answer invariant-loop decreases-loop
+add-put-answer : tie.Need-overflow_add-deals invariant-loop decreases-loop
 add-put-answer c = search (tests, small c.before.before)
 
-put-answer-requires : tie.Need-put-answer-requires invariant-loop decreases-loop
+put-answer-requires : tie.Need-put_answer-requires invariant-loop decreases-loop
 put-answer-requires c κs =
     let a = c.before.before in
-    fits a.before.before.before.loop.invariant.0 a.before.before.loop-test.true (read₁ a) (answered₁ a)
+    fits a.before.before.before.loop-at.invariant.0 a.before.before.loop-at-test.true (read₁ a) (answered₁ a)
 
-add_at : tie.Need-overflow-add-at invariant-loop decreases-loop
+add_at : tie.Need-overflow_add-at invariant-loop decreases-loop
 add_at c = search (tests, small c.before.before.before.before.before.before)
 
-add-deals : tie.Need-overflow-add-deals invariant-loop decreases-loop
+add-deals : tie.Need-overflow_add-deals-in-loop-at invariant-loop decreases-loop
 add-deals c = search (tests, small c.before.before.before.before.before.before.before)
 
-loop-less : tie.Need-loop-smaller invariant-loop decreases-loop
-loop-less c = omega (arith, small c.before.before.before.before.before.before.before, c.before.before.before.before.before.before.before.before.before.loop-test.true)
+loop-less : tie.Need-loop-at-smaller invariant-loop decreases-loop
+loop-less c = omega (arith, small c.before.before.before.before.before.before.before, c.before.before.before.before.before.before.before.before.before.loop-at-test.true)
 
-loop-again : tie.Need-loop-preserved invariant-loop decreases-loop
+loop-again : tie.Need-loop-at-preserved invariant-loop decreases-loop
 loop-again c =
     let a = c.before.before.before.before.before.before.before in
-    let next = step a.before.before.before.loop.invariant.0 a.before.before.loop-test.true (read₁ a) (answered₁ a) in
-    (rw c.before.before.before.before.put-answer.ensures next, a.answer-deal.ensures.1)
+    let next = step a.before.before.before.loop-at.invariant.0 a.before.before.loop-at-test.true (read₁ a) (answered₁ a) in
+    (rw c.before.before.before.before.put_answer.ensures next, a.answer_deal-answered.ensures.1)
 
-same_length : tie.Need-same-length invariant-loop decreases-loop
-same_length c = search (tests, c.before.loop.invariant.0.same)
+same_length : tie.Need-shape_of-results invariant-loop decreases-loop
+same_length c = search (tests, c.before.loop-at.invariant.0.same)
 
 returns : tie.Need-returns invariant-loop decreases-loop
 returns c =
-    let l = c.before.loop in
+    let l = c.before.loop-at in
     let s = c.before.before.before.before in
     let edition = s.args.edition in
     let lines = s.args.lines.now in
     let before = s.args.results.now in
-    let none : answers_from edition (l.deals + 1) (toCome lines l.at l.number) ≡ [] = rw (no_lines_at lines l.at c.loop-test.false, no_deals, no_answers) in
+    let none : answers_from edition (l.deals + 1) (toCome lines l.at l.number) ≡ [] = rw (no_lines_at lines l.at c.loop-at-test.false, no_deals, no_answers) in
     let all : take (l.deals * 4) l.results ≡ answers_from edition 1 (toCome lines 0 2) =
     sym (append-nil (take (l.deals * 4) l.results)) ∙ ap (λ xs. take (l.deals * 4) l.results ++ xs) (sym none) ∙ l.invariant.0.written in
     let fits : l.deals * 4 ≤ length l.results = omega (arith, l.invariant.0.room, l.invariant.0.same) in
     let count : l.deals * 4 ≡ length (answers_from edition 1 (toCome lines 0 2)) = sym (length-take-le (l.deals * 4) l.results fits) ∙ ap length all in
     sym (take-append-drop (l.deals * 4) l.results)
-    ∙ ap (λ xs. xs ++ drop (l.deals * 4) l.results) all
+    ∙ ap (λ xs. xs ++ drop (l.deals * 4) l.results-1) all
     ∙ ap (λ xs. answers_from edition 1 (toCome lines 0 2) ++ xs) (l.invariant.0.behind ∙ ap (λ n. drop n before) count)
 
-pub answer-deals-spec : {M : Type 1} → statement M
-answer-deals-spec =
+pub answer_deals_spec : {M : Type 1} → statement M
+answer_deals_spec =
     tie.close
     (tie.spec
     invariant-loop

@@ -24,10 +24,10 @@ record Holds (lines : List ℕ) (deals at : ℕ) : Type 0 where
   few : deals ≤ at
   counted : deals + toCome lines at ≡ toCome lines 0
 
-abbrev invariant-loop : tie.invariant-loop
+abbrev invariant-loop : tie.invariant-loop-at
 invariant-loop lines deals₀ at₀ deals at = Holds lines deals at
 
-abbrev decreases-loop : tie.decreases-loop
+abbrev decreases-loop : tie.decreases-loop-at
 decreases-loop lines deals₀ at₀ deals at = length lines - at
 
 module _ (lines : List ℕ) (at : ℕ) (h : at < length lines) where
@@ -42,71 +42,71 @@ module _ (lines : List ℕ) (at : ℕ) (h : at < length lines) where
   passed : opens_deal (drop at lines) ≡ false → toCome lines at ≡ toCome lines end
   passed e = ap length (deals_further 2 lines at h e) ∙ deals_counted 3 2 _
 
-loop-holds : tie.Need-loop-init invariant-loop decreases-loop
+loop-holds : tie.Need-loop-at-init invariant-loop decreases-loop
 loop-holds c = record { inside = omega arith; few = omega arith; counted = omega arith }
 
-sub-opens-deal : tie.Need-overflow-sub-opens-deal invariant-loop decreases-loop
+sub-opens-deal : tie.Need-slice_bounds-opens_deal-count invariant-loop decreases-loop
 sub-opens-deal c = search tests
 
-part-opens-deal-start : tie.Need-slice-bounds-opens-deal-start invariant-loop decreases-loop
+part-opens-deal-start : tie.Need-slice_bounds-opens_deal-start invariant-loop decreases-loop
 part-opens-deal-start c = search tests
 
-part-opens-deal-end : tie.Need-slice-bounds-opens-deal-end invariant-loop decreases-loop
+part-opens-deal-end : tie.Need-slice_bounds-opens_deal-end invariant-loop decreases-loop
 part-opens-deal-end c = search tests
 
-opens-deal-requires : tie.Need-opens-deal-requires invariant-loop decreases-loop
+opens-deal-requires : tie.Need-opens_deal-requires invariant-loop decreases-loop
 opens-deal-requires c κs = tt
 
-add-deals : tie.Need-overflow-add-deals invariant-loop decreases-loop
+add-deals : tie.Need-overflow_add-deals invariant-loop decreases-loop
 add-deals c = search tests
 
-line-end-requires : tie.Need-line-end-requires invariant-loop decreases-loop
+line-end-requires : tie.Need-line_end-at-requires invariant-loop decreases-loop
 line-end-requires c κs = omega arith
 
 -- the line that was looked at is longer than nothing and ends inside
-on : (c : tie.After-line-end invariant-loop decreases-loop)
+on : (c : tie.After-line_end-at invariant-loop decreases-loop)
     → let l = c.before.before.before.before.before in
-    (l.loop.at < c.line-end.result) × (c.line-end.result ≤ length l.before.before.args.lines.now)
+    (l.loop-at.at < c.line_end-at.result) × (c.line_end-at.result ≤ length l.before.before.args.lines.now)
 on c =
     let l = c.before.before.before.before.before in
     let lines = l.before.before.args.lines.now in
-    let h = first_at_some lines l.loop.at c.before.before.before.before.loop-test.true in
-    let k = first_at_inside lines l.loop.at l.loop.invariant.inside in
-    (omega (arith, c.line-end.ensures, h), omega (arith, c.line-end.ensures, k))
+    let h = first_at_some lines l.loop-at.at c.before.before.before.before.loop-at-test.true in
+    let k = first_at_inside lines l.loop-at.at l.loop-at.invariant.inside in
+    (omega (arith, c.line_end-at.ensures, h), omega (arith, c.line_end-at.ensures, k))
 
-loop-less : tie.Need-loop-smaller invariant-loop decreases-loop
+loop-less : tie.Need-loop-at-smaller invariant-loop decreases-loop
 loop-less c = omega (arith, on c)
 
 -- what the line adds
-added : (c : tie.After-line-end invariant-loop decreases-loop)
+added : (c : tie.After-line_end-at invariant-loop decreases-loop)
     → let l = c.before.before.before.before.before in
     let lines = l.before.before.args.lines.now in
-    let deals = c.before.if1.deals in
-    (deals ≤ l.loop.deals + 1) × (deals + toCome lines c.line-end.result ≡ l.loop.deals + toCome lines l.loop.at)
+    let deals = c.before.if-opens_deal.deals in
+    (deals ≤ l.loop-at.deals + 1) × (deals + toCome lines c.line_end-at.result ≡ l.loop-at.deals + toCome lines l.loop-at.at)
 added c =
     let l = c.before.before.before.before.before in
     let lines = l.before.before.args.lines.now in
-    let h = c.before.before.before.before.loop-test.true in
-    let told = sym (ap opens_deal (rest_part lines l.loop.at)) ∙ sym c.before.before.opens-deal.ensures in
-    let end = ap (toCome lines) c.line-end.ensures in
+    let h = c.before.before.before.before.loop-at-test.true in
+    let told = sym (ap opens_deal (rest_part lines l.loop-at.at)) ∙ sym c.before.before.opens_deal.ensures in
+    let end = ap (toCome lines) c.line_end-at.ensures in
     ⊎_elim
-    (λ w. let k = opened lines l.loop.at h (told ∙ w.0.taken) in (omega (arith, w.1), omega (arith, w.1, k, end)))
-    (λ w. let k = passed lines l.loop.at h (told ∙ w.0.left) in (omega (arith, w.1), omega (arith, w.1, k, end)))
-    c.before.if1.branch
+    (λ w. let k = opened lines l.loop-at.at h (told ∙ w.0.taken) in (omega (arith, w.1), omega (arith, w.1, k, end)))
+    (λ w. let k = passed lines l.loop-at.at h (told ∙ w.0.left) in (omega (arith, w.1), omega (arith, w.1, k, end)))
+    c.before.if-opens_deal.branch
 
-loop-again : tie.Need-loop-preserved invariant-loop decreases-loop
+loop-again : tie.Need-loop-at-preserved invariant-loop decreases-loop
 loop-again c =
     let l = c.before.before.before.before.before in
-    record { inside = (on c).1; few = omega (arith, on c, added c, l.loop.invariant.few); counted = omega (arith, added c, l.loop.invariant.counted) }
+    record { inside = (on c).1; few = omega (arith, on c, added c, l.loop-at.invariant.few); counted = omega (arith, added c, l.loop-at.invariant.counted) }
 
 returns : tie.Need-returns invariant-loop decreases-loop
 returns c =
     let lines = c.before.before.before.args.lines.now in
-    let none : toCome lines c.before.loop.at ≡ 0 = rw (no_lines_at lines c.before.loop.at c.loop-test.false, no_deals) in
-    omega (arith, none, c.before.loop.invariant.counted)
+    let none : toCome lines c.before.loop-at.at ≡ 0 = rw (no_lines_at lines c.before.loop-at.at c.loop-at-test.false, no_deals) in
+    omega (arith, none, c.before.loop-at.invariant.counted)
 
-pub count-deals-spec : {M : Type 1} → statement M
-count-deals-spec =
+pub count_deals_spec : {M : Type 1} → statement M
+count_deals_spec =
     tie.close
     (tie.spec
     invariant-loop

@@ -6,11 +6,11 @@ use Rattle.book.proofs.deals.opens_deal.Tie as tie
 slice-aggregate-starts-with : tie.Need-slice-aggregate-starts-with
 slice-aggregate-starts-with c = refl
 
-starts-with-requires : tie.Need-starts-with-requires
+starts-with-requires : tie.Need-starts_with-requires
 starts-with-requires c κs = tt
 
 returns : tie.Need-returns
 returns c = c.starts_with.ensures
 
-pub opens-deal-spec : {M : Type 1} → statement M
-opens-deal-spec = tie.close (tie.spec slice-aggregate-starts-with starts-with-requires returns)
+pub opens_deal_spec : {M : Type 1} → statement M
+opens_deal_spec = tie.close (tie.spec slice-aggregate-starts-with starts-with-requires returns)

@@ -25,7 +25,7 @@ same-requires c κs = tt
 
 returns : tie.Need-returns
 unfolding heading_of
-returns c = sym (if_true _ _ _ (told_true _ _ c.before.same.ensures c.if1.true))
+returns c = sym (if_true _ _ _ (told_true _ _ c.before.same.ensures c.if-same.true))
 
 slice-aggregate-same-2 : tie.Need-slice-aggregate-same-2
 slice-aggregate-same-2 c = refl
@@ -33,11 +33,11 @@ slice-aggregate-same-2 c = refl
 same-requires-2 : tie.Need-same-requires-2
 same-requires-2 c κs = tt
 
-returns-2 : tie.Need-returns-2
+returns-2 : tie.Need-returns-then-same-2
 unfolding heading_of
 returns-2 c =
     let b = c.before in
-    sym (if_false _ _ _ (told_false _ _ b.before.before.before.same.ensures b.before.before.if1.false) ∙ if_true _ _ _ (told_true _ _ b.same2.ensures c.if2.true))
+    sym (if_false _ _ _ (told_false _ _ b.before.before.before.same.ensures b.before.before.if-same.false) ∙ if_true _ _ _ (told_true _ _ b.same-2.ensures c.if-same-2.true))
 
 slice-aggregate-same-3 : tie.Need-slice-aggregate-same-3
 slice-aggregate-same-3 c = refl
@@ -45,22 +45,22 @@ slice-aggregate-same-3 c = refl
 same-requires-3 : tie.Need-same-requires-3
 same-requires-3 c κs = tt
 
-returns-3 : tie.Need-returns-3
+returns-3 : tie.Need-returns-then-same-3
 returns-3 c =
     let b = c.before in
     let d = b.before.before in
     let e = d.before in
-    sym (neither _ (told_false _ _ e.before.before.before.same.ensures e.before.before.if1.false) (told_false _ _ e.same2.ensures d.if2.false) ∙ if_true _ _ _ (told_true _ _ b.same3.ensures c.if3.true))
+    sym (neither _ (told_false _ _ e.before.before.before.same.ensures e.before.before.if-same.false) (told_false _ _ e.same-2.ensures d.if-same-2.false) ∙ if_true _ _ _ (told_true _ _ b.same-3.ensures c.if-same-3.true))
 
-returns-4 : tie.Need-returns-4
+returns-4 : tie.Need-returns
 returns-4 c =
     let b = c.before in
     let d = b.before.before in
     let e = d.before in
-    sym (neither _ (told_false _ _ e.before.before.before.same.ensures e.before.before.if1.false) (told_false _ _ e.same2.ensures d.if2.false) ∙ if_false _ _ _ (told_false _ _ b.same3.ensures c.if3.false))
+    sym (neither _ (told_false _ _ e.before.before.before.same.ensures e.before.before.if-same.false) (told_false _ _ e.same-2.ensures d.if-same-2.false) ∙ if_false _ _ _ (told_false _ _ b.same-3.ensures c.if-same-3.false))
 
-pub read-heading-spec : {M : Type 1} → statement M
-read-heading-spec =
+pub read_heading_spec : {M : Type 1} → statement M
+read_heading_spec =
     tie.close
     (tie.spec
     slice-aggregate-same

@@ -22,84 +22,84 @@ use Rattle.book.proofs.Passing.{deal_read}
 use Rattle.book.proofs.reading.answer_deal.Statement.{statement}
 use Rattle.book.proofs.reading.answer_deal.Tie as tie
 
-line-end-requires : tie.Need-line-end-requires
+line-end-requires : tie.Need-line_end-end-requires
 line-end-requires c κs = omega arith
 
 -- where the first line ends
-module _ (c : tie.After-line-end) where
+module _ (c : tie.After-line_end-end) where
   abbrev text : List ℕ
   text = c.before.before.args.text.now
 
   abbrev edition : ℕ
   edition = c.before.before.args.edition
 
-  ends : c.line-end.result ≡ length (first_line text)
-  ends = omega (arith, c.line-end.ensures)
+  ends : c.line_end-end.result ≡ length (first_line text)
+  ends = omega (arith, c.line_end-end.ensures)
 
-  inside : c.line-end.result ≤ length text
+  inside : c.line_end-end.result ≤ length text
   inside = omega (arith, ends, first_inside text)
 
-slice-aggregate-read-line : tie.Need-slice-aggregate-read-line
+slice-aggregate-read-line : tie.Need-slice_bounds-read_line-end
 slice-aggregate-read-line c = sym (length-take-le _ _ (inside c.before))
 
-read-line-requires : tie.Need-read-line-requires
+read-line-requires : tie.Need-read_line-line-requires
 read-line-requires c κs = tt
 
-opening-refusal-requires : tie.Need-opening-refusal-requires
+opening-refusal-requires : tie.Need-opening_refusal-refusal-requires
 opening-refusal-requires c κs = tt
 
 -- what it says, and how it is refused
-module _ (c : tie.After-opening-refusal) where
-  abbrev line-ended : tie.After-line-end
+module _ (c : tie.After-opening_refusal-refusal) where
+  abbrev line-ended : tie.After-line_end-end
   line-ended = c.before.before.before
 
-  read : c.before.read-line.result ≡ line_of (edition line-ended) (first_line (text line-ended))
-  read = c.before.read-line.ensures ∙ ap (line_of (edition line-ended)) (ap (λ n. take n (text line-ended)) (ends line-ended) ∙ first_taken (text line-ended))
+  read : c.before.read_line-line.result ≡ line_of (edition line-ended) (first_line (text line-ended))
+  read = c.before.read_line-line.ensures ∙ ap (line_of (edition line-ended)) (ap (λ n. take n (text line-ended)) (ends line-ended) ∙ first_taken (text line-ended))
 
-  refusal : c.opening-refusal.result ≡ opening_refusal (line_of (edition line-ended) (first_line (text line-ended)))
-  refusal = c.opening-refusal.ensures ∙ ap opening_refusal read
+  refusal : c.opening_refusal-refusal.result ≡ opening_refusal (line_of (edition line-ended) (first_line (text line-ended)))
+  refusal = c.opening_refusal-refusal.ensures ∙ ap opening_refusal read
 
-refused-requires : tie.Need-refused-requires
+refused-requires : tie.Need-refused-answer-requires
 refused-requires c κs =
     let e = line-ended c.before in
-    (inside e, omega (arith, e.before.before.pre.0.1))
+    (inside e, omega (arith, e.before.before.requires.0.1))
 
-returns : tie.Need-returns
+returns : tie.Need-returns-then-refusal-ne0
 returns c =
     let o = c.before.before in
     let e = line-ended o in
     let s = e.before.before in
-    let r = c.refused.ensures in
+    let r = c.refused-answer.ensures in
     let told = refusal o in (
       (
-        deal_read (text e) s.args.number _ _ s.pre.0.0 (rw (ends e) at r.1),
-        unopened_answer (edition e) (first_deal s.args.number (text e)) (rw told at (ne_eqb _ _ c.before.if1.true))
+        deal_read (text e) s.args.number _ _ s.requires.0.0 (rw (ends e) at r.1),
+        unopened_answer (edition e) (first_deal s.args.number (text e)) (rw told at (ne_eqb _ _ c.before.if-refusal-ne0.true))
             ∙ sym (componentwise (r.0.0 ∙ told) r.0.1.0 r.0.1.1),
       ),
-      s.pre.1,
+      s.requires.1,
     )
 
-opening-terms-requires : tie.Need-opening-terms-requires
+opening-terms-requires : tie.Need-opening_terms-terms-requires
 opening-terms-requires c κs = tt
 
 -- the terms on it
-said : (c : tie.After-opening-terms) → (c.opening_terms_lem.result ≡ opening_terms (line_of (edition (line-ended c.before.before)) (first_line (text (line-ended c.before.before))))) × (terms_refusal c.opening_terms_lem.result ≡ 0)
+said : (c : tie.After-opening_terms-terms) → (c.opening_terms-terms.result ≡ opening_terms (line_of (edition (line-ended c.before.before)) (first_line (text (line-ended c.before.before))))) × (terms_refusal c.opening_terms-terms.result ≡ 0)
 said c =
     let o = c.before.before in
-    let e = c.opening_terms_lem.ensures ∙ ap opening_terms (read o) in
-    (e, ap terms_refusal e ∙ opening_terms_lem _ (sym (refusal o) ∙ c.before.if1.false))
+    let e = c.opening_terms-terms.ensures ∙ ap opening_terms (read o) in
+    (e, ap terms_refusal e ∙ opening_terms_lem _ (sym (refusal o) ∙ c.before.if-refusal-ne0.false))
 
-for-terms-requires : tie.Need-for-terms-requires
-for-terms-requires c κs = ((said c).1, (line-ended c.before.before).before.before.pre.1)
+for-terms-requires : tie.Need-for_terms-factors-requires
+for-terms-requires c κs = ((said c).1, (line-ended c.before.before).before.before.requires.1)
 
-opened-requires : tie.Need-opened-requires
+opened-requires : tie.Need-opened-answer-requires
 opened-requires c κs =
     let t = c.before in
     let e = line-ended t.before.before in
     let s = e.before.before in
-    (((said t).1, (inside e, omega (arith, s.pre.0.1, first_at_some (text e) 0 (opens_some (text e) s.pre.0.0), ends e))), c.for-terms.ensures)
+    (((said t).1, (inside e, omega (arith, s.requires.0.1, first_at_some (text e) 0 (opens_some (text e) s.requires.0.0), ends e))), c.for_terms-factors.ensures)
 
-returns-2 : tie.Need-returns-2
+returns-2 : tie.Need-returns
 returns-2 c =
     let f = c.before in
     let t = f.before in
@@ -108,17 +108,17 @@ returns-2 c =
     let s = e.before.before in
     let lines : ℕ → Terms → List ℕ = λ n terms. lines_answer s.args.number (s.args.number + 1) (opened_deal terms) (own_lines (lines_of (drop n (text e)))) in (
       (
-        deal_read (text e) s.args.number _ _ s.pre.0.0 (rw (ends e) at c.opened.ensures.0),
-        opened_answer (edition e) (first_deal s.args.number (text e)) (sym (refusal o) ∙ t.before.if1.false)
+        deal_read (text e) s.args.number _ _ s.requires.0.0 (rw (ends e) at c.opened-answer.ensures.0),
+        opened_answer (edition e) (first_deal s.args.number (text e)) (sym (refusal o) ∙ t.before.if-refusal-ne0.false)
             ∙ ap (lines (length (first_line (text e)))) (sym (said t).0)
-            ∙ ap (λ n. lines n t.opening_terms_lem.result) (sym (ends e))
-            ∙ c.opened.ensures.1,
+            ∙ ap (λ n. lines n t.opening_terms-terms.result) (sym (ends e))
+            ∙ c.opened-answer.ensures.1,
       ),
-      (f.for-terms.ensures.deal_factor, f.for-terms.ensures.guarantee_factor),
+      (f.for_terms-factors.ensures.deal_factor, f.for_terms-factors.ensures.guarantee_factor),
     )
 
-pub answer-deal-spec : {M : Type 1} → statement M
-answer-deal-spec =
+pub answer_deal_spec : {M : Type 1} → statement M
+answer_deal_spec =
     tie.close
     (tie.spec
     line-end-requires

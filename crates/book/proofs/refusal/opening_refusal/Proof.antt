@@ -4,42 +4,42 @@ use Rattle.base.proofs.Tests.{tests}
 use Rattle.book.proofs.refusal.opening_refusal.Statement.{statement}
 use Rattle.book.proofs.refusal.opening_refusal.Tie as tie
 
-enum-known-line : tie.Need-enum-known-line
+enum-known-line : tie.Need-enum_known-line
 enum-known-line c = search tests
 
-check-requires : tie.Need-check-requires
+check-requires : tie.Need-check-answer-requires
 check-requires c κs = search tests
 
 number-requires : tie.Need-number-requires
 number-requires c κs = search tests
 
-enum_told : tie.Need-enum-told
+enum_told : tie.Need-enum_told-1
 enum_told c = search tests
 
-enum-told-2 : tie.Need-enum-told-2
+enum-told-2 : tie.Need-enum_told-in-GuaranteeLine
 enum-told-2 c = search tests
 
-enum-told-3 : tie.Need-enum-told-3
+enum-told-3 : tie.Need-enum_told-in-Malformed
 enum-told-3 c = search tests
 
-returns : tie.Need-returns
+returns : tie.Need-returns-in-DealLine
 unfolding opening_refusal
-returns c = rw (c.before.before.before.line.given.1, c.number.ensures, c.before.check.ensures)
+returns c = rw (c.before.before.before.line-1.given.1, c.number.ensures, c.before.check-answer.ensures)
 
-returns-2 : tie.Need-returns-2
+returns-2 : tie.Need-returns-in-CollateralLine
 unfolding opening_refusal
-returns-2 c = rw c.enum_told.given.1
+returns-2 c = rw c.enum_told-1.given.1
 
-returns-3 : tie.Need-returns-3
+returns-3 : tie.Need-returns-in-GuaranteeLine
 unfolding opening_refusal
-returns-3 c = rw c.enum-told2.given.1
+returns-3 c = rw c.in-GuaranteeLine.given.1
 
-returns-4 : tie.Need-returns-4
+returns-4 : tie.Need-returns-in-Malformed
 unfolding opening_refusal
-returns-4 c = rw c.enum-told3.given.1
+returns-4 c = rw c.in-Malformed.given.1
 
-pub opening-refusal-spec : {M : Type 1} → statement M
-opening-refusal-spec =
+pub opening_refusal_spec : {M : Type 1} → statement M
+opening_refusal_spec =
     tie.close
     (tie.spec
     enum-known-line

@@ -23,18 +23,18 @@ use Rattle.book.proofs.reply.reply_to.Tie as tie
 refused-requires : tie.Need-refused-requires
 refused-requires c κs = tt
 
-returns : tie.Need-returns
+returns : tie.Need-returns-then-book-gt-BOOK_LIMIT
 unfolding book_tests
 returns c =
     let a = c.before.before.before.args in
     c.refused.ensures
-    ∙ sym (refused_reply_lem a.book.now a.places 10 refl (lt-ltb book_limit (length a.book.now) (omega (arith, c.before.if1.true))))
+    ∙ sym (refused_reply_lem a.book.now a.places 10 refl (lt-ltb book_limit (length a.book.now) (omega (arith, c.before.if-book-gt-BOOK_LIMIT.true))))
 
-line-end-requires : tie.Need-line-end-requires
+line-end-requires : tie.Need-line_end-at-requires
 line-end-requires c κs = omega arith
 
 -- a book that is not too long, and where its first line ends
-module _ (c : tie.After-line-end) where
+module _ (c : tie.After-line_end-at) where
   abbrev book : List ℕ
   book = c.before.before.before.args.book.now
 
@@ -42,113 +42,113 @@ module _ (c : tie.After-line-end) where
   places = c.before.before.before.args.places
 
   short : ltb book_limit (length book) ≡ false
-  short = le-ltb book_limit (length book) (omega (arith, c.before.if1.false))
+  short = le-ltb book_limit (length book) (omega (arith, c.before.if-book-gt-BOOK_LIMIT.false))
 
-  ends : c.line-end.result ≡ length (first_line book)
-  ends = omega (arith, c.line-end.ensures)
+  ends : c.line_end-at.result ≡ length (first_line book)
+  ends = omega (arith, c.line_end-at.ensures)
 
-  inside : c.line-end.result ≤ length book
+  inside : c.line_end-at.result ≤ length book
   inside = omega (arith, ends, first_inside book)
 
-slice-aggregate-read-heading : tie.Need-slice-aggregate-read-heading
+slice-aggregate-read-heading : tie.Need-slice_bounds-read_heading-end
 slice-aggregate-read-heading c = sym (length-take-le _ _ (inside c.before))
 
-read-heading-requires : tie.Need-read-heading-requires
+read-heading-requires : tie.Need-read_heading-heading-requires
 read-heading-requires c κs = tt
 
-is-wrong-requires : tie.Need-is-wrong-requires
+is-wrong-requires : tie.Need-is_wrong-requires
 is-wrong-requires c κs = tt
 
 -- what it says
-module _ (c : tie.After-is-wrong) where
-  abbrev line-ended : tie.After-line-end
+module _ (c : tie.After-is_wrong) where
+  abbrev line-ended : tie.After-line_end-at
   line-ended = c.before.before.before
 
-  said : is_wrong (heading_of (first_line (book line-ended))) ≡ c.is-wrong.result
+  said : is_wrong (heading_of (first_line (book line-ended))) ≡ c.is_wrong.result
   said =
       let line = ap (λ n. take n (book line-ended)) (ends line-ended) ∙ first_taken (book line-ended) in
-      sym (c.is-wrong.ensures ∙ ap is_wrong (c.before.read-heading.ensures ∙ ap heading_of line))
+      sym (c.is_wrong.ensures ∙ ap is_wrong (c.before.read_heading-heading.ensures ∙ ap heading_of line))
 
-refused-requires-2 : tie.Need-refused-requires-2
+refused-requires-2 : tie.Need-refused-requires-then-is_wrong
 refused-requires-2 c κs = tt
 
-returns-2 : tie.Need-returns-2
+returns-2 : tie.Need-returns-then-is_wrong
 unfolding book_tests
 returns-2 c =
     let w = c.before.before in
     let l = line-ended w in
-    c.refused2.ensures ∙ sym (refused_reply_lem (book l) (places l) 9 refl (short l, said w ∙ c.before.if2.true))
+    c.refused-then-is_wrong.ensures ∙ sym (refused_reply_lem (book l) (places l) 9 refl (short l, said w ∙ c.before.if-is_wrong.true))
 
-own-line-requires : tie.Need-own-line-requires
+own-line-requires : tie.Need-own_line-requires
 own-line-requires c κs = inside (line-ended c.before)
 
 -- whether the second line is refused
-second : (c : tie.After-own-line) → not (all_pass (take 1 (lines_behind (book (line-ended c.before.before)))) opens_deal) ≡ c.own_line.result
+second : (c : tie.After-own_line) → not (all_pass (take 1 (lines_behind (book (line-ended c.before.before)))) opens_deal) ≡ c.own_line.result
 second c =
     let l = line-ended c.before.before in
     second_wrong (text_behind (book l)) ∙ sym (c.own_line.ensures ∙ ap (λ n. own_first (drop n (book l))) (ends l))
 
-refused-requires-3 : tie.Need-refused-requires-3
+refused-requires-3 : tie.Need-refused-requires-then-own_line
 refused-requires-3 c κs = tt
 
-returns-3 : tie.Need-returns-3
+returns-3 : tie.Need-returns-then-own_line
 unfolding book_tests
 returns-3 c =
     let o = c.before.before in
     let h = o.before in
     let l = line-ended h.before in
-    c.refused3.ensures
-    ∙ sym (refused_reply_lem (book l) (places l) 12 refl (short l, (said h.before ∙ h.if2.false, second o ∙ c.before.if3.true)))
+    c.refused-then-own_line.ensures
+    ∙ sym (refused_reply_lem (book l) (places l) 12 refl (short l, (said h.before ∙ h.if-is_wrong.false, second o ∙ c.before.if-own_line.true)))
 
-sub-count-deals : tie.Need-overflow-sub-count-deals
+sub-count-deals : tie.Need-slice_bounds-count_deals-count
 sub-count-deals c = inside (line-ended c.before.before.before)
 
-part-count-deals-start : tie.Need-slice-bounds-count-deals-start
+part-count-deals-start : tie.Need-slice_bounds-count_deals-start
 part-count-deals-start c = search (tests, inside (line-ended c.before.before.before))
 
-part-count-deals-end : tie.Need-slice-bounds-count-deals-end
+part-count-deals-end : tie.Need-slice_bounds-count_deals-end
 part-count-deals-end c = search tests
 
-count-deals-requires : tie.Need-count-deals-requires
+count-deals-requires : tie.Need-count_deals-deals-requires
 count-deals-requires c κs = tt
 
 -- a book whose deals are counted passed the tests before
-module _ (c : tie.After-count-deals) where
-  abbrev heading-read : tie.After-is-wrong
+module _ (c : tie.After-count_deals-deals) where
+  abbrev heading-read : tie.After-is_wrong
   heading-read = c.before.before.before.before.before
 
-  abbrev line : tie.After-line-end
+  abbrev line : tie.After-line_end-at
   line = line-ended heading-read
 
   passed : (is_wrong (heading_of (first_line (book line))) ≡ false) × (not (all_pass (take 1 (lines_behind (book line))) opens_deal) ≡ false)
-  passed = (said heading-read ∙ c.before.before.before.before.if2.false, second c.before.before.before ∙ c.before.before.if3.false)
+  passed = (said heading-read ∙ c.before.before.before.before.if-is_wrong.false, second c.before.before.before ∙ c.before.before.if-own_line.false)
 
-  counted : c.count-deals.result ≡ length (deals_of (book line))
+  counted : c.count_deals-deals.result ≡ length (deals_of (book line))
   counted =
       let count : List ℕ → ℕ = λ text. length (deals_from 2 (lines_of text)) in
-      c.count-deals.ensures ∙ ap count (rest_part (book line) _ ∙ ap (λ n. drop n (book line)) (ends line))
+      c.count_deals-deals.ensures ∙ ap count (rest_part (book line) _ ∙ ap (λ n. drop n (book line)) (ends line))
 
-refused-requires-4 : tie.Need-refused-requires-4
+refused-requires-4 : tie.Need-refused-requires-then-places-deals
 refused-requires-4 c κs = tt
 
-returns-4 : tie.Need-returns-4
+returns-4 : tie.Need-returns-then-places-deals
 unfolding book_tests
 returns-4 c =
     let n = c.before.before in
     let l = line n in
-    let few = lt-ltb (places l) (4 * length (deals_of (book l))) (omega (arith, counted n, c.before.if4.true)) in
-    c.refused4.ensures ∙ sym (refused_reply_lem (book l) (places l) 13 refl (short l, ((passed n).0, ((passed n).1, few))))
+    let few = lt-ltb (places l) (4 * length (deals_of (book l))) (omega (arith, counted n, c.before.if-places-deals.true)) in
+    c.refused-then-places-deals.ensures ∙ sym (refused_reply_lem (book l) (places l) 13 refl (short l, ((passed n).0, ((passed n).1, few))))
 
-returns-5 : tie.Need-returns-5
+returns-5 : tie.Need-returns
 unfolding book_tests
 returns-5 c =
     let n = c.before in
     let l = line n in
-    let enough = le-ltb (places l) (4 * length (deals_of (book l))) (omega (arith, counted n, c.if4.false)) in
+    let enough = le-ltb (places l) (4 * length (deals_of (book l))) (omega (arith, counted n, c.if-places-deals.false)) in
     ap (λ d. record { refusal = 0; deals = d }) (counted n) ∙ sym (accepted_reply (book l) (places l) (short l, ((passed n).0, ((passed n).1, (enough, tt)))))
 
-pub reply-to-spec : {M : Type 1} → statement M
-reply-to-spec =
+pub reply_to_spec : {M : Type 1} → statement M
+reply_to_spec =
     tie.close
     (tie.spec
     refused-requires

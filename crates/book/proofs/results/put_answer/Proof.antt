@@ -22,44 +22,44 @@ placed l at a b c d h =
 returns : tie.Need-returns
 returns c = placed _ _ _ _ _ _ c.requires
 
-mul-results : tie.Need-overflow-mul-results
+mul-results : tie.Need-offset_bounds-results-at
 mul-results c = search tests
 
-slice-write-results : tie.Need-slice-write-results
+slice-write-results : tie.Need-bounds-results-at
 slice-write-results c = search tests
 
-add-results : tie.Need-overflow-add-results
+add-results : tie.Need-overflow_add-results
 add-results c = search tests
 
-mul-results-2 : tie.Need-overflow-mul-results-2
+mul-results-2 : tie.Need-offset_bounds-results-at-2
 mul-results-2 c = search tests
 
-slice-write-results-2 : tie.Need-slice-write-results-2
+slice-write-results-2 : tie.Need-bounds-results-at-2
 slice-write-results-2 c = rw length-set (omega (arith, c.requires))
 
-add-results-2 : tie.Need-overflow-add-results-2
+add-results-2 : tie.Need-overflow_add-results-2
 add-results-2 c = search tests
 
-mul-results-3 : tie.Need-overflow-mul-results-3
+mul-results-3 : tie.Need-offset_bounds-results-at-3
 mul-results-3 c = search tests
 
-slice-write-results-3 : tie.Need-slice-write-results-3
+slice-write-results-3 : tie.Need-bounds-results-at-3
 slice-write-results-3 c = rw (length-set, length-set) (omega (arith, c.requires))
 
-add-results-3 : tie.Need-overflow-add-results-3
+add-results-3 : tie.Need-overflow_add-results-3
 add-results-3 c = search tests
 
-mul-results-4 : tie.Need-overflow-mul-results-4
+mul-results-4 : tie.Need-offset_bounds-results-at-4
 mul-results-4 c = search tests
 
-slice-write-results-4 : tie.Need-slice-write-results-4
+slice-write-results-4 : tie.Need-bounds-results-at-4
 slice-write-results-4 c = rw (length-set, length-set, length-set) (omega (arith, c.requires))
 
-same_length : tie.Need-same-length
+same_length : tie.Need-shape_of-results
 same_length c = search tests
 
-pub put-answer-spec : {M : Type 1} → statement M
-put-answer-spec =
+pub put_answer_spec : {M : Type 1} → statement M
+put_answer_spec =
     tie.close
     (tie.spec
     mul-results

@@ -75,11 +75,11 @@ module _ (c : tie.After-any_from invariant-loop decreases-loop) where
       c.any_from.ensures ∙ ap (λ g. any (drop (at-loop.loop-i.i + 1) (take start.args.count start.args.positions)) (member g)) c.before.group_of.ensures
       ∙ group_occurs start.args.netted here _
 
-  later : not c.any_from.result ≡ false → Counting number figure start.args.positions start.args.count at-loop.loop-i.sum (at-loop.loop-i.i + 1)
+  later : c.any_from.result ≡ true → Counting number figure start.args.positions start.args.count at-loop.loop-i.sum (at-loop.loop-i.i + 1)
   later e = counting_later number figure start.args.positions start.args.count at-loop.loop-i.sum at-loop.loop-i.i zero_position counted inside at-loop.loop-i.invariant.1
       (told_true _ _ occurs-is e)
 
-  last : not c.any_from.result ≡ true → Counting number figure start.args.positions start.args.count (at-loop.loop-i.sum + figure here) (at-loop.loop-i.i + 1)
+  last : c.any_from.result ≡ false → Counting number figure start.args.positions start.args.count (at-loop.loop-i.sum + figure here) (at-loop.loop-i.i + 1)
   last e = counting_here number figure start.args.positions start.args.count at-loop.loop-i.sum at-loop.loop-i.i zero_position counted inside at-loop.loop-i.invariant.1
       (told_false _ _ occurs-is e)
 
@@ -101,7 +101,7 @@ loop-less c = search tests
 loop-again : tie.Need-loop-i-preserved invariant-loop decreases-loop
 loop-again c =
     let a = c.before in
-    (omega arith, ⊎_elim (λ w. omega (arith, last a w.0.taken, w)) (λ w. omega (arith, later a w.0.left, w)) c.if-not-any_from.branch)
+    (omega arith, ⊎_elim (λ w. omega (arith, last a w.if-not-any_from.true, w.figure-sum.ensures, w.sum-is)) (λ w. omega (arith, later a w.if-not-any_from.false, w.sum-is)) c.if-not-any_from.branch-raw)
 
 returns : tie.Need-returns invariant-loop decreases-loop
 returns c =

@@ -16,10 +16,10 @@ currency-figure-requires : tie.Need-currency_figure-requires
 currency-figure-requires c κs = search tests
 
 returns : tie.Need-returns-in-Securities
-returns c = rw c.before.enum_told-1.given.1 c.security_figure.ensures
+returns c = rw c.in-Securities.is c.security_figure.ensures
 
 returns-2 : tie.Need-returns-in-Currencies
-returns-2 c = rw c.before.in-Currencies.given.1 c.currency_figure.ensures
+returns-2 c = rw c.in-Currencies.is c.currency_figure.ensures
 
 pub figure_spec : {M : Type 1} → statement M
 figure_spec =

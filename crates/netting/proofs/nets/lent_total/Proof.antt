@@ -58,7 +58,7 @@ loop-again c =
     let p = get_or s.args.positions l.loop-i.i zero_position in
     let more = sum_take lent s.args.positions l.loop-i.i zero_position (omega (arith, long s)) in (
       omega arith,
-      ⊎_elim (λ w. omega (arith, w, more, lent_in p w.0.taken)) (λ w. omega (arith, w, more, lent_out p w.0.left)) c.if-position-eq-LENT.branch,
+      ⊎_elim (λ w. omega (arith, w.sum-is, more, lent_in p w.if-position-eq-LENT.true)) (λ w. omega (arith, w.sum-is, more, lent_out p w.if-position-eq-LENT.false)) c.if-position-eq-LENT.branch-raw,
     )
 
 returns : tie.Need-returns invariant-loop decreases-loop

@@ -47,12 +47,12 @@ signed-amount-requires c κs =
 
 -- the net with one position more
 more : (c : tie.After-signed_amount-sum invariant-loop decreases-loop) → let l = c.before.before.before.before in
-    to_z w64 l.loop-i.sum +ℤ to_z w64 (of_z w64 c.signed_amount-sum.result) ≡ net_of (member l.before.args.group) (take (l.loop-i.i + 1) l.before.args.positions)
+    to_z w64 l.loop-i.sum-bits +ℤ to_z w64 (of_z w64 c.signed_amount-sum.result) ≡ net_of (member l.before.args.group) (take (l.loop-i.i + 1) l.before.args.positions)
 more c =
     let l = c.before.before.before.before in
     let s = l.before in
     net_more (member s.args.group) s.args.positions l.loop-i.i _ _ (omega (arith, long s)) l.loop-i.invariant.1
-    (back _ (record { sfits = c.signed_amount-sum.type-inv }) ∙ (rw c.before.is_member.ensures at c.signed_amount-sum.ensures))
+    (back _ (record { sfits = c.signed_amount-sum.type_inv }) ∙ (rw c.before.is_member.ensures at c.signed_amount-sum.ensures))
 
 add-sum : tie.Need-overflow_add-sum invariant-loop decreases-loop
 add-sum c =

@@ -13,7 +13,7 @@ use Rattle.netting.proofs.nets.signed_amount.Statement.{statement}
 use Rattle.netting.proofs.nets.signed_amount.Tie as tie
 
 returns : tie.Need-returns-then-not-counts
-returns c = let a = c.before.args in sym (signed_none a.position a.counts (not-true _ c.if-not-counts.true))
+returns c = let a = c.before.args in sym (signed_none a.position a.counts c.if-not-counts.true)
 
 cast-amount : tie.Need-overflow_cast-amount
 cast-amount c = pos_fits _ (omega arith)
@@ -26,7 +26,7 @@ returns-2 : tie.Need-returns-then-position-eq-LENT
 returns-2 c =
     let e = c.before.before.before in
     let a = e.before.args in
-    amount-reads e.before ∙ sym (signed_lent a.position a.counts (not-false _ e.if-not-counts.false) c.if-position-eq-LENT.true)
+    amount-reads e.before ∙ sym (signed_lent a.position a.counts e.if-not-counts.false c.if-position-eq-LENT.true)
 
 turned : (s : tie.Start) → pos 0 -ℤ to_z w64 s.args.position.amount ≡ 0 less s.args.position.amount
 turned s =
@@ -40,7 +40,7 @@ returns-3 : tie.Need-returns
 returns-3 c =
     let e = c.before.before.before in
     let a = e.before.args in
-    back _ (sub-result c) ∙ turned e.before ∙ sym (signed_received a.position a.counts (not-false _ e.if-not-counts.false) c.if-position-eq-LENT.false)
+    back _ (sub-result c) ∙ turned e.before ∙ sym (signed_received a.position a.counts e.if-not-counts.false c.if-position-eq-LENT.false)
 
 pub signed_amount_spec : {M : Type 1} → statement M
 signed_amount_spec = tie.close (tie.spec returns cast-amount returns-2 sub-result returns-3)

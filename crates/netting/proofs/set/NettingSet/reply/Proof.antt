@@ -33,7 +33,7 @@ exposure-after-netting-requires : tie.Need-exposure_after_netting-exposure-requi
 exposure-after-netting-requires c κs = ((plain_set _ _ _ (pass c)).count, fitting _ _ _ (pass c))
 
 weight-of-requires : tie.Need-weight_of-requires
-weight-of-requires c κs = (plain_set _ _ _ (pass c.before)).terms-1
+weight-of-requires c κs = (plain_set _ _ _ (pass c.before)).terms
 
 -- both factors are bounded, so the product is
 product : (c : tie.After-weight_of) → c.before.exposure_after_netting-exposure.result * c.weight_of.result ≤ 1000000000000000
