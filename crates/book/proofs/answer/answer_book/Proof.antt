@@ -76,7 +76,7 @@ module _ (c : tie.After-line_end-at) where
   behind = rest_part book₂ _ ∙ ap (λ n. drop n book₂) ends
 
 slice-aggregate-read-heading : tie.Need-slice_bounds-read_heading-end
-slice-aggregate-read-heading c = sym (length-take-le _ _ (inside c.before))
+slice-aggregate-read-heading c = sym (length-take-le _ _ (inside c))
 
 read-heading-requires : tie.Need-read_heading-heading-requires
 read-heading-requires c κs = tt
@@ -85,24 +85,24 @@ edition-requires : tie.Need-edition-requires
 edition-requires c κs = tt
 
 -- the edition that the first line says
-headed : (c : tie.After-edition) → c.edition.result ≡ book_edition (book₂ c.before.before.before)
+headed : (c : tie.After-edition) → c.edition.result ≡ book_edition (book₂ c.before.before)
 headed c =
-    let e = c.before.before.before in
+    let e = c.before.before in
     let line = ap (λ n. take n (book₂ e)) (ends e) ∙ first_taken (book₂ e) in
     c.edition.ensures ∙ ap edition_of (c.before.read_heading-heading.ensures ∙ ap heading_of line)
 
 sub-answer-deals : tie.Need-slice_bounds-answer_deals-count
-sub-answer-deals c = inside c.before.before.before
+sub-answer-deals c = inside c.before.before
 
 part-answer-deals-start : tie.Need-slice_bounds-answer_deals-start
-part-answer-deals-start c = search (tests, inside c.before.before.before)
+part-answer-deals-start c = search (tests, inside c.before.before)
 
 part-answer-deals-end : tie.Need-slice_bounds-answer_deals-end
 part-answer-deals-end c = search tests
 
 answer-deals-requires : tie.Need-answer_deals-requires
 answer-deals-requires c κs =
-    let e = c.before.before.before.before.before in
+    let e = c.before.before.before.before in
     let l = length-drop (length (first_line (book₂ e))) (book₂ e) in
     rw (behind e) (begins e, (omega (arith, l, short e, long e), enough (book₂ e) (places₂ e) (accepted e)))
 
@@ -112,7 +112,7 @@ same_length c = search tests
 returns-2 : tie.Need-returns
 returns-2 c =
     let h = c.before.before.before.before.before in
-    let e = h.before.before.before in
+    let e = h.before.before in
     let r = e.before.before.before in (
       r.reply_to-reply.ensures,
       c.before.before.answer_deals.ensures

@@ -217,7 +217,7 @@ returns c =
     let fits : l.deals * 4 ≤ length l.results = omega (arith, l.invariant.0.room, l.invariant.0.same) in
     let count : l.deals * 4 ≡ length (answers_from edition 1 (toCome lines 0 2)) = sym (length-take-le (l.deals * 4) l.results fits) ∙ ap length all in
     sym (take-append-drop (l.deals * 4) l.results)
-    ∙ ap (λ xs. xs ++ drop (l.deals * 4) l.results-1) all
+    ∙ ap (λ xs. xs ++ drop (l.deals * 4) l.results) all
     ∙ ap (λ xs. answers_from edition 1 (toCome lines 0 2) ++ xs) (l.invariant.0.behind ∙ ap (λ n. drop n before) count)
 
 pub answer_deals_spec : {M : Type 1} → statement M

@@ -90,9 +90,9 @@ added c =
     let told = sym (ap opens_deal (rest_part lines l.loop-at.at)) ∙ sym c.before.before.opens_deal.ensures in
     let end = ap (toCome lines) c.line_end-at.ensures in
     ⊎_elim
-    (λ w. let k = opened lines l.loop-at.at h (told ∙ w.0.taken) in (omega (arith, w.1), omega (arith, w.1, k, end)))
-    (λ w. let k = passed lines l.loop-at.at h (told ∙ w.0.left) in (omega (arith, w.1), omega (arith, w.1, k, end)))
-    c.before.if-opens_deal.branch
+    (λ w. let k = opened lines l.loop-at.at h (told ∙ w.if-opens_deal.true) in (omega (arith, w.deals-is), omega (arith, w.deals-is, k, end)))
+    (λ w. let k = passed lines l.loop-at.at h (told ∙ w.if-opens_deal.false) in (omega (arith, w.deals-is), omega (arith, w.deals-is, k, end)))
+    c.before.if-opens_deal.branch-raw
 
 loop-again : tie.Need-loop-at-preserved invariant-loop decreases-loop
 loop-again c =

@@ -1,10 +1,6 @@
 -- `book::deals::opens_deal` meets its contract: the two bytes are those of the definition. Assumes nothing.
-use mathlib.Core.Path.{refl}
 use Rattle.book.proofs.deals.opens_deal.Statement.{statement}
 use Rattle.book.proofs.deals.opens_deal.Tie as tie
-
-slice-aggregate-starts-with : tie.Need-slice-aggregate-starts-with
-slice-aggregate-starts-with c = refl
 
 starts-with-requires : tie.Need-starts_with-requires
 starts-with-requires c κs = tt
@@ -13,4 +9,4 @@ returns : tie.Need-returns
 returns c = c.starts_with.ensures
 
 pub opens_deal_spec : {M : Type 1} → statement M
-opens_deal_spec = tie.close (tie.spec slice-aggregate-starts-with starts-with-requires returns)
+opens_deal_spec = tie.close (tie.spec starts-with-requires returns)

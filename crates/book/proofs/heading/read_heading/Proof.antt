@@ -17,18 +17,12 @@ neither : (line : List ℕ) → same_bytes line first_header ≡ false → same_
 unfolding heading_of
 neither line e h = if_false _ _ _ e ∙ if_false _ _ _ h
 
-slice-aggregate-same : tie.Need-slice-aggregate-same
-slice-aggregate-same c = refl
-
 same-requires : tie.Need-same-requires
 same-requires c κs = tt
 
-returns : tie.Need-returns
+returns : tie.Need-returns-then-same
 unfolding heading_of
-returns c = sym (if_true _ _ _ (told_true _ _ c.before.same.ensures c.if-same.true))
-
-slice-aggregate-same-2 : tie.Need-slice-aggregate-same-2
-slice-aggregate-same-2 c = refl
+returns c = sym (if_true _ _ _ (told_true _ _ c.same.ensures c.if-same.true))
 
 same-requires-2 : tie.Need-same-requires-2
 same-requires-2 c κs = tt
@@ -36,40 +30,34 @@ same-requires-2 c κs = tt
 returns-2 : tie.Need-returns-then-same-2
 unfolding heading_of
 returns-2 c =
-    let b = c.before in
-    sym (if_false _ _ _ (told_false _ _ b.before.before.before.same.ensures b.before.before.if-same.false) ∙ if_true _ _ _ (told_true _ _ b.same-2.ensures c.if-same-2.true))
-
-slice-aggregate-same-3 : tie.Need-slice-aggregate-same-3
-slice-aggregate-same-3 c = refl
+    let b = c in
+    sym (if_false _ _ _ (told_false _ _ b.same.ensures b.if-same.false) ∙ if_true _ _ _ (told_true _ _ b.same-2.ensures c.if-same-2.true))
 
 same-requires-3 : tie.Need-same-requires-3
 same-requires-3 c κs = tt
 
 returns-3 : tie.Need-returns-then-same-3
 returns-3 c =
-    let b = c.before in
-    let d = b.before.before in
-    let e = d.before in
-    sym (neither _ (told_false _ _ e.before.before.before.same.ensures e.before.before.if-same.false) (told_false _ _ e.same-2.ensures d.if-same-2.false) ∙ if_true _ _ _ (told_true _ _ b.same-3.ensures c.if-same-3.true))
+    let b = c in
+    let d = b in
+    let e = d in
+    sym (neither _ (told_false _ _ e.same.ensures e.if-same.false) (told_false _ _ e.same-2.ensures d.if-same-2.false) ∙ if_true _ _ _ (told_true _ _ b.same-3.ensures c.if-same-3.true))
 
 returns-4 : tie.Need-returns
 returns-4 c =
-    let b = c.before in
-    let d = b.before.before in
-    let e = d.before in
-    sym (neither _ (told_false _ _ e.before.before.before.same.ensures e.before.before.if-same.false) (told_false _ _ e.same-2.ensures d.if-same-2.false) ∙ if_false _ _ _ (told_false _ _ b.same-3.ensures c.if-same-3.false))
+    let b = c in
+    let d = b in
+    let e = d in
+    sym (neither _ (told_false _ _ e.same.ensures e.if-same.false) (told_false _ _ e.same-2.ensures d.if-same-2.false) ∙ if_false _ _ _ (told_false _ _ b.same-3.ensures c.if-same-3.false))
 
 pub read_heading_spec : {M : Type 1} → statement M
 read_heading_spec =
     tie.close
     (tie.spec
-    slice-aggregate-same
     same-requires
     returns
-    slice-aggregate-same-2
     same-requires-2
     returns-2
-    slice-aggregate-same-3
     same-requires-3
     returns-3
     returns-4)

@@ -40,7 +40,7 @@ module _ (c : tie.After-line_end-end) where
   inside = omega (arith, ends, first_inside text)
 
 slice-aggregate-read-line : tie.Need-slice_bounds-read_line-end
-slice-aggregate-read-line c = sym (length-take-le _ _ (inside c.before))
+slice-aggregate-read-line c = sym (length-take-le _ _ (inside c))
 
 read-line-requires : tie.Need-read_line-line-requires
 read-line-requires c κs = tt
@@ -51,7 +51,7 @@ opening-refusal-requires c κs = tt
 -- what it says, and how it is refused
 module _ (c : tie.After-opening_refusal-refusal) where
   abbrev line-ended : tie.After-line_end-end
-  line-ended = c.before.before.before
+  line-ended = c.before.before
 
   read : c.before.read_line-line.result ≡ line_of (edition line-ended) (first_line (text line-ended))
   read = c.before.read_line-line.ensures ∙ ap (line_of (edition line-ended)) (ap (λ n. take n (text line-ended)) (ends line-ended) ∙ first_taken (text line-ended))

@@ -115,13 +115,13 @@ module _ (c : tie.Joined-line invariant-loop decreases-loop) where
       let gs = looped.loop-end.guarantees in
       let fits = looped.loop-end.invariant.fits in
       ⊎_elim
-      (λ a. done_as (collateral_done t cs gs fits a.1.given.0.0) (sym a.1.given.1 ∙ read) (a.8 ∙ a.5.ensures ∙ a.3.ensures.1) (a.6 ∙ a.3.ensures.0) a.7)
+      (λ a. done_as (collateral_done t cs gs fits a.in-CollateralLine.item) (sym a.in-CollateralLine.is ∙ read) (a.refusal-is ∙ a.number-refusal.ensures ∙ a.add-added.ensures.1) (a.collateral-is ∙ a.add-added.ensures.0) a.guarantees-is)
       (⊎_elim
-      (λ a. done_as (guarantee_done t cs gs fits a.1.given.0.0) (sym a.1.given.1 ∙ read) (a.8 ∙ a.5.ensures ∙ a.3.ensures.1) a.6 (a.7 ∙ a.3.ensures.0))
+      (λ a. done_as (guarantee_done t cs gs fits a.in-GuaranteeLine.item) (sym a.in-GuaranteeLine.is ∙ read) (a.refusal-is ∙ a.number-refusal-in-GuaranteeLine.ensures ∙ a.add-added-in-GuaranteeLine.ensures.1) a.collateral-is (a.guarantees-is ∙ a.add-added-in-GuaranteeLine.ensures.0))
       (⊎_elim
-      (λ a. done_as (deal_done t cs gs fits a.1.given.0.0) (sym a.1.given.1 ∙ read) a.4 a.2 a.3)
-      (λ a. done_as (malformed_done t cs gs fits) (sym a.1.given.1 ∙ read) a.4 a.2 a.3)))
-      c.match-line.rest
+      (λ a. done_as (deal_done t cs gs fits a.in-DealLine.field-0) (sym a.in-DealLine.is ∙ read) a.refusal-is a.collateral-is a.guarantees-is)
+      (λ a. done_as (malformed_done t cs gs fits) (sym a.in-Malformed.is ∙ read) a.refusal-is a.collateral-is a.guarantees-is)))
+      c.match-line.branch-raw
 
 -- first that a line that is not refused is passed, and no other
 loop-again : tie.Need-loop-end-preserved invariant-loop decreases-loop

@@ -24,19 +24,19 @@ enum-told-3 c = search tests
 
 returns : tie.Need-returns-in-DealLine
 unfolding opening_refusal
-returns c = rw (c.before.before.before.line-1.given.1, c.number.ensures, c.before.check-answer.ensures)
+returns c = rw (c.in-DealLine.is, c.number.ensures, c.before.check-answer.ensures)
 
 returns-2 : tie.Need-returns-in-CollateralLine
 unfolding opening_refusal
-returns-2 c = rw c.enum_told-1.given.1
+returns-2 c = rw c.in-CollateralLine.is
 
 returns-3 : tie.Need-returns-in-GuaranteeLine
 unfolding opening_refusal
-returns-3 c = rw c.in-GuaranteeLine.given.1
+returns-3 c = rw c.in-GuaranteeLine.is
 
 returns-4 : tie.Need-returns-in-Malformed
 unfolding opening_refusal
-returns-4 c = rw c.in-Malformed.given.1
+returns-4 c = rw c.in-Malformed.is
 
 pub opening_refusal_spec : {M : Type 1} → statement M
 opening_refusal_spec =

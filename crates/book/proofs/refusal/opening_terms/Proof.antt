@@ -18,19 +18,19 @@ enum-told-3 c = search tests
 
 returns : tie.Need-returns-in-DealLine
 unfolding opening_terms
-returns c = rw c.before.line-1.given.1
+returns c = rw c.in-DealLine.is
 
 returns-2 : tie.Need-returns-in-CollateralLine
 unfolding opening_terms
-returns-2 c = rw c.enum_told-1.given.1
+returns-2 c = rw c.in-CollateralLine.is
 
 returns-3 : tie.Need-returns-in-GuaranteeLine
 unfolding opening_terms
-returns-3 c = rw c.in-GuaranteeLine.given.1
+returns-3 c = rw c.in-GuaranteeLine.is
 
 returns-4 : tie.Need-returns-in-Malformed
 unfolding opening_terms
-returns-4 c = rw c.in-Malformed.given.1
+returns-4 c = rw c.in-Malformed.is
 
 pub opening_terms_spec : {M : Type 1} → statement M
 opening_terms_spec =

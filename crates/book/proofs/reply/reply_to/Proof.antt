@@ -51,7 +51,7 @@ module _ (c : tie.After-line_end-at) where
   inside = omega (arith, ends, first_inside book)
 
 slice-aggregate-read-heading : tie.Need-slice_bounds-read_heading-end
-slice-aggregate-read-heading c = sym (length-take-le _ _ (inside c.before))
+slice-aggregate-read-heading c = sym (length-take-le _ _ (inside c))
 
 read-heading-requires : tie.Need-read_heading-heading-requires
 read-heading-requires c κs = tt
@@ -62,7 +62,7 @@ is-wrong-requires c κs = tt
 -- what it says
 module _ (c : tie.After-is_wrong) where
   abbrev line-ended : tie.After-line_end-at
-  line-ended = c.before.before.before
+  line-ended = c.before.before
 
   said : is_wrong (heading_of (first_line (book line-ended))) ≡ c.is_wrong.result
   said =
