@@ -3,13 +3,13 @@ use mathlib.Core.Path.{ap}
 use Rattle.hadlephoga.proofs.hadlephoga_net_set.Statement.{statement}
 use Rattle.hadlephoga.proofs.hadlephoga_net_set.Tie as tie
 
-net-numbers-requires : tie.Need-net-numbers-requires
+net-numbers-requires : tie.Need-net_numbers-reply-requires
 net-numbers-requires c κs = tt
 
 returns : tie.Need-returns
 returns c =
-    let e = c.net-numbers.ensures in
+    let e = c.net_numbers-reply.ensures in
     (ap (λ r. r.refusal) e, (ap (λ r. r.exposure) e, ap (λ r. r.rwa) e))
 
-pub hadlephoga-net-set-spec : {M : Type 1} → statement M
-hadlephoga-net-set-spec = tie.close (tie.spec net-numbers-requires returns)
+pub hadlephoga_net_set_spec : {M : Type 1} → statement M
+hadlephoga_net_set_spec = tie.close (tie.spec net-numbers-requires returns)

@@ -9,37 +9,37 @@ use Rattle.hadlephoga.proofs.Operations.{adding_11, adding_40, adding_by_deal, k
 use Rattle.hadlephoga.proofs.adding.add_collateral.Statement.{statement}
 use Rattle.hadlephoga.proofs.adding.add_collateral.Tie as tie
 
-returns : tie.Need-returns
+returns : tie.Need-returns-then-item-ne-COLLATERAL_WIDTH
 unfolding numbers_with_collateral
-returns c = let e = ne_eqb _ _ c.if1.true in (sym (adding_11 _ _ _ _ e), sym (kept_11 _ _ _ _ _ e))
+returns c = let e = ne_eqb _ _ c.if-item-ne-COLLATERAL_WIDTH.true in (sym (adding_11 _ _ _ _ e), sym (kept_11 _ _ _ _ _ e))
 
 number-requires : tie.Need-number-requires
 number-requires c κs = tt
 
-returns-2 : tie.Need-returns-2
+returns-2 : tie.Need-returns-then-numbers-ne-RECORD_LENGTH
 unfolding numbers_with_collateral answer_number
 returns-2 c =
     let then = c.before in
-    let long = then.before.if1.false in
-    let e = ne_eqb _ _ then.if2.true in
+    let long = then.before.if-item-ne-COLLATERAL_WIDTH.false in
+    let e = ne_eqb _ _ then.if-numbers-ne-RECORD_LENGTH.true in
     (c.number.ensures ∙ sym (adding_40 _ _ _ _ long e), sym (kept_40 _ _ _ _ _ long e))
 
-deal-in-requires : tie.Need-deal-in-requires
+deal-in-requires : tie.Need-deal_in-deal-requires
 deal-in-requires c κs = search tests
 
-collateral-in-requires : tie.Need-collateral-in-requires
+collateral-in-requires : tie.Need-collateral_in-requires
 collateral-in-requires c κs = search tests
 
-add-collateral-requires : tie.Need-add-collateral-requires
+add-collateral-requires : tie.Need-add_collateral-reply-requires
 add-collateral-requires c κs = tt
 
-put-reply-requires : tie.Need-put-reply-requires
+put-reply-requires : tie.Need-put_reply-requires
 put-reply-requires c κs = search tests
 
-same_length : tie.Need-same-length
+same_length : tie.Need-shape_of-numbers
 same_length c = search tests
 
-returns-3 : tie.Need-returns-3
+returns-3 : tie.Need-returns
 unfolding numbers_with_collateral add_collateral_refusal
 returns-3 c =
     let p = c.before.before in
@@ -47,12 +47,12 @@ returns-3 c =
     let i = a.before in
     let d = i.before in
     let else = d.before.before in
-    let own = adding_by_deal _ _ _ _ else.before.if1.false else.if2.false in
-    let added = rw (d.deal-in.ensures, i.collateral-in.ensures) at a.add-collateral.ensures in
-    (p.put-reply.ensures.0 ∙ added.0 ∙ sym own, rw (added.0 ∙ sym own, added.1) at p.put-reply.ensures.1)
+    let own = adding_by_deal _ _ _ _ else.if-item-ne-COLLATERAL_WIDTH.false else.if-numbers-ne-RECORD_LENGTH.false in
+    let added = rw (d.deal_in-deal.ensures, i.collateral_in.ensures) at a.add_collateral-reply.ensures in
+    (p.put_reply.ensures.0 ∙ added.0 ∙ sym own, rw (added.0 ∙ sym own, added.1) at p.put_reply.ensures.1)
 
-pub add-collateral-spec : {M : Type 1} → statement M
-add-collateral-spec =
+pub add_collateral_spec : {M : Type 1} → statement M
+add_collateral_spec =
     tie.close
     (tie.spec
     returns

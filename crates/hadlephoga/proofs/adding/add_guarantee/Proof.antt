@@ -9,37 +9,37 @@ use Rattle.hadlephoga.proofs.Operations.{adding_11, adding_40, adding_by_deal, k
 use Rattle.hadlephoga.proofs.adding.add_guarantee.Statement.{statement}
 use Rattle.hadlephoga.proofs.adding.add_guarantee.Tie as tie
 
-returns : tie.Need-returns
+returns : tie.Need-returns-then-item-ne-SENT_GUARANTEE_WIDTH
 unfolding numbers_with_guarantee
-returns c = let e = ne_eqb _ _ c.if1.true in (sym (adding_11 _ _ _ _ e), sym (kept_11 _ _ _ _ _ e))
+returns c = let e = ne_eqb _ _ c.if-item-ne-SENT_GUARANTEE_WIDTH.true in (sym (adding_11 _ _ _ _ e), sym (kept_11 _ _ _ _ _ e))
 
 number-requires : tie.Need-number-requires
 number-requires c κs = tt
 
-returns-2 : tie.Need-returns-2
+returns-2 : tie.Need-returns-then-numbers-ne-RECORD_LENGTH
 unfolding numbers_with_guarantee answer_number
 returns-2 c =
     let then = c.before in
-    let long = then.before.if1.false in
-    let e = ne_eqb _ _ then.if2.true in
+    let long = then.before.if-item-ne-SENT_GUARANTEE_WIDTH.false in
+    let e = ne_eqb _ _ then.if-numbers-ne-RECORD_LENGTH.true in
     (c.number.ensures ∙ sym (adding_40 _ _ _ _ long e), sym (kept_40 _ _ _ _ _ long e))
 
-deal-in-requires : tie.Need-deal-in-requires
+deal-in-requires : tie.Need-deal_in-deal-requires
 deal-in-requires c κs = search tests
 
-guarantee-sent-requires : tie.Need-guarantee-sent-requires
+guarantee-sent-requires : tie.Need-guarantee_sent-requires
 guarantee-sent-requires c κs = search tests
 
-add-guarantee-requires : tie.Need-add-guarantee-requires
+add-guarantee-requires : tie.Need-add_guarantee-reply-requires
 add-guarantee-requires c κs = tt
 
-put-reply-requires : tie.Need-put-reply-requires
+put-reply-requires : tie.Need-put_reply-requires
 put-reply-requires c κs = search tests
 
-same_length : tie.Need-same-length
+same_length : tie.Need-shape_of-numbers
 same_length c = search tests
 
-returns-3 : tie.Need-returns-3
+returns-3 : tie.Need-returns
 unfolding numbers_with_guarantee add_guarantee_refusal
 returns-3 c =
     let p = c.before.before in
@@ -47,12 +47,12 @@ returns-3 c =
     let i = a.before in
     let d = i.before in
     let else = d.before.before in
-    let own = adding_by_deal _ _ _ _ else.before.if1.false else.if2.false in
-    let added = rw (d.deal-in.ensures, i.guarantee-sent.ensures) at a.add-guarantee.ensures in
-    (p.put-reply.ensures.0 ∙ added.0 ∙ sym own, rw (added.0 ∙ sym own, added.1) at p.put-reply.ensures.1)
+    let own = adding_by_deal _ _ _ _ else.if-item-ne-SENT_GUARANTEE_WIDTH.false else.if-numbers-ne-RECORD_LENGTH.false in
+    let added = rw (d.deal_in-deal.ensures, i.guarantee_sent.ensures) at a.add_guarantee-reply.ensures in
+    (p.put_reply.ensures.0 ∙ added.0 ∙ sym own, rw (added.0 ∙ sym own, added.1) at p.put_reply.ensures.1)
 
-pub add-guarantee-spec : {M : Type 1} → statement M
-add-guarantee-spec =
+pub add_guarantee_spec : {M : Type 1} → statement M
+add_guarantee_spec =
     tie.close
     (tie.spec
     returns

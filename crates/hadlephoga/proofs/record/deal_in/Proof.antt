@@ -13,46 +13,46 @@ use Rattle.hadlephoga.proofs.record.deal_in.Tie as tie
 wide : (c : tie.After-terms-in-arg) → length (take terms_width c.before.before.args.numbers.now) ≡ terms_width
 wide c = length-take-le terms_width c.before.before.args.numbers.now (omega (arith, c.before.before.requires))
 
-slice-aggregate-terms-in : tie.Need-slice-aggregate-terms-in
+slice-aggregate-terms-in : tie.Need-slice_bounds-terms_in-end
 slice-aggregate-terms-in c = sym (wide c)
 
-terms-in-requires : tie.Need-terms-in-requires
+terms-in-requires : tie.Need-terms_in-terms-requires
 terms-in-requires c κs = omega (arith, wide c)
 
-mul-collateral-items : tie.Need-overflow-mul-collateral-items
+mul-collateral-items : tie.Need-offset_bounds-numbers-first
 mul-collateral-items c = search tests
 
-sub-collateral-items : tie.Need-overflow-sub-collateral-items
+sub-collateral-items : tie.Need-slice_bounds-collateral_items-count
 sub-collateral-items c = search tests
 
-part-collateral-items-start : tie.Need-slice-bounds-collateral-items-start
+part-collateral-items-start : tie.Need-slice_bounds-collateral_items-start
 part-collateral-items-start c = search tests
 
-part-collateral-items-end : tie.Need-slice-bounds-collateral-items-end
+part-collateral-items-end : tie.Need-slice_bounds-collateral_items-end
 part-collateral-items-end c = search tests
 
-collateral-items-requires : tie.Need-collateral-items-requires
+collateral-items-requires : tie.Need-collateral_items-pledged-requires
 collateral-items-requires c κs = search tests
 
-mul-guarantee-items : tie.Need-overflow-mul-guarantee-items
+mul-guarantee-items : tie.Need-offset_bounds-numbers-first-2
 mul-guarantee-items c = search tests
 
-sub-guarantee-items : tie.Need-overflow-sub-guarantee-items
+sub-guarantee-items : tie.Need-slice_bounds-guarantee_items-count
 sub-guarantee-items c = search tests
 
-part-guarantee-items-start : tie.Need-slice-bounds-guarantee-items-start
+part-guarantee-items-start : tie.Need-slice_bounds-guarantee_items-start
 part-guarantee-items-start c = search tests
 
-part-guarantee-items-end : tie.Need-slice-bounds-guarantee-items-end
+part-guarantee-items-end : tie.Need-slice_bounds-guarantee_items-end
 part-guarantee-items-end c = search tests
 
-guarantee-items-requires : tie.Need-guarantee-items-requires
+guarantee-items-requires : tie.Need-guarantee_items-guaranteed-requires
 guarantee-items-requires c κs = search tests
 
-shared-slice-read-t20 : tie.Need-shared-slice-read-t20
+shared-slice-read-t20 : tie.Need-bounds-numbers-12
 shared-slice-read-t20 c = search tests
 
-shared-slice-read-t23 : tie.Need-shared-slice-read-t23
+shared-slice-read-t23 : tie.Need-bounds-numbers-189
 shared-slice-read-t23 c = search tests
 
 returns : tie.Need-returns
@@ -61,11 +61,11 @@ returns c =
     let g = c.before.before in
     let p = g.before.before in
     let t = p.before.before in
-    let e = rw rest_part at g.guarantee-items.ensures in
-    rw (t.terms-in.ensures, p.collateral-items.ensures, e)
+    let e = rw rest_part at g.guarantee_items-guaranteed.ensures in
+    rw (t.terms_in-terms.ensures, p.collateral_items-pledged.ensures, e)
 
-pub deal-in-spec : {M : Type 1} → statement M
-deal-in-spec =
+pub deal_in_spec : {M : Type 1} → statement M
+deal_in_spec =
     tie.close
     (tie.spec
     slice-aggregate-terms-in

@@ -11,22 +11,22 @@ use Rattle.hadlephoga.proofs.record.report_in.Tie as tie
 refused-requires : tie.Need-refused-requires
 refused-requires c κs = search tests
 
-returns : tie.Need-returns
+returns : tie.Need-returns-then-numbers-ne-RECORD_LENGTH
 unfolding report_in
 returns c = search tests
 
-deal-in-requires : tie.Need-deal-in-requires
+deal-in-requires : tie.Need-deal_in-requires
 deal-in-requires c κs = search tests
 
 of-requires : tie.Need-of-requires
 of-requires c κs = search tests
 
-returns-2 : tie.Need-returns-2
+returns-2 : tie.Need-returns
 unfolding report_in
 returns-2 c =
     let d = c.before in
-    c.of.ensures.0.1 ∙ ap report_of d.deal-in.ensures ∙ sym (if_true _ _ _ (eq-eqb _ _ d.before.if1.false))
+    c.of.ensures.0.1 ∙ ap report_of d.deal_in.ensures ∙ sym (if_true _ _ _ (eq-eqb _ _ d.before.if-numbers-ne-RECORD_LENGTH.false))
 
-pub report-in-spec : {M : Type 1} → statement M
-report-in-spec =
+pub report_in_spec : {M : Type 1} → statement M
+report_in_spec =
     tie.close (tie.spec refused-requires returns deal-in-requires of-requires returns-2)

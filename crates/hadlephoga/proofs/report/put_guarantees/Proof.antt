@@ -12,52 +12,52 @@ use Rattle.hadlephoga.proofs.Numbers.{Put, put_none, put_next, put_all}
 use Rattle.hadlephoga.proofs.report.put_guarantees.Statement.{statement}
 use Rattle.hadlephoga.proofs.report.put_guarantees.Tie as tie
 
-abbrev invariant-loop : tie.invariant-loop
+abbrev invariant-loop : tie.invariant-loop-i
 invariant-loop list₀ at reports place₀ i₀ list place i = Put guarantee_numbers guarantee_report_width reports list₀ at list place i
 
-abbrev decreases-loop : tie.decreases-loop
+abbrev decreases-loop : tie.decreases-loop-i
 decreases-loop list₀ at reports place₀ i₀ list place i = list_limit - i
 
-long : (c : tie.Start invariant-loop decreases-loop) → length c.args.t3 ≡ list_limit
-long c = search (unmapped, c.well-formed)
+long : (c : tie.Start invariant-loop decreases-loop) → length c.args.reports ≡ list_limit
+long c = search (unmapped, c.well_formed)
 
-loop-holds : tie.Need-loop-init invariant-loop decreases-loop
+loop-holds : tie.Need-loop-i-init invariant-loop decreases-loop
 loop-holds c = put_none _ _ _ _ _
 
-mul-report : tie.Need-overflow-mul-report invariant-loop decreases-loop
+mul-report : tie.Need-offset_bounds-reports-i invariant-loop decreases-loop
 mul-report c = search tests
 
-array-copy-out-report : tie.Need-array-copy-out-report invariant-loop decreases-loop
+array-copy-out-report : tie.Need-bounds-reports-i invariant-loop decreases-loop
 array-copy-out-report c = search tests
 
-put-guarantee-requires : tie.Need-put-guarantee-requires invariant-loop decreases-loop
+put-guarantee-requires : tie.Need-put_guarantee-place-requires invariant-loop decreases-loop
 put-guarantee-requires c κs =
     let l = c.before.before.before in
-    omega (arith, l.loop.invariant.behind, l.loop.invariant.same, l.before.before.requires)
+    omega (arith, l.loop-i.invariant.behind, l.loop-i.invariant.same, l.before.before.requires)
 
-add-i : tie.Need-overflow-add-i invariant-loop decreases-loop
+add-i : tie.Need-overflow_add-i invariant-loop decreases-loop
 add-i c = search tests
 
-loop-less : tie.Need-loop-smaller invariant-loop decreases-loop
+loop-less : tie.Need-loop-i-smaller invariant-loop decreases-loop
 loop-less c = search tests
 
-loop-again : tie.Need-loop-preserved invariant-loop decreases-loop
+loop-again : tie.Need-loop-i-preserved invariant-loop decreases-loop
 loop-again c =
     let p = c.before.before in
     let l = p.before.before.before.before in
     let s = l.before.before in
-    put_next _ l.loop.invariant no_guarantee (omega (arith, long s)) (omega (arith, s.requires)) refl p.put-guarantee.auto.0 p.put-guarantee.ensures
+    put_next _ l.loop-i.invariant no_guarantee (omega (arith, long s)) (omega (arith, s.requires)) refl p.put_guarantee-place.auto.list p.put_guarantee-place.ensures
 
-same_length : tie.Need-same-length invariant-loop decreases-loop
-same_length c = c.before.loop.invariant.same
+same_length : tie.Need-shape_of-list invariant-loop decreases-loop
+same_length c = c.before.loop-i.invariant.same
 
 returns : tie.Need-returns invariant-loop decreases-loop
 returns c =
     let l = c.before in
-    put_all _ l.loop.invariant (omega (arith, l.loop.invariant.inside, long l.before.before))
+    put_all _ l.loop-i.invariant (omega (arith, l.loop-i.invariant.inside, long l.before.before))
 
-pub put-guarantees-spec : {M : Type 1} → statement M
-put-guarantees-spec =
+pub put_guarantees_spec : {M : Type 1} → statement M
+put_guarantees_spec =
     tie.close
     (tie.spec
     invariant-loop

@@ -9,19 +9,19 @@ use Rattle.hadlephoga.proofs.sets.net_positions.Tie as tie
 reply-requires : tie.Need-reply-requires
 reply-requires c κs = tt
 
-returns : tie.Need-returns
+returns : tie.Need-returns-then-count-gt-POSITION_LIMIT
 unfolding set_reply
-returns c = c.reply.ensures ∙ many_alike _ _ _ _ c.before.if1.true
+returns c = c.reply.ensures ∙ many_alike _ _ _ _ c.before.if-count-gt-POSITION_LIMIT.true
 
-positions-in-requires : tie.Need-positions-in-requires
+positions-in-requires : tie.Need-positions_in-positions-requires
 positions-in-requires c κs = search tests
 
 reply-requires-2 : tie.Need-reply-requires-2
 reply-requires-2 c κs = tt
 
-returns-2 : tie.Need-returns-2
+returns-2 : tie.Need-returns
 unfolding set_reply
-returns-2 c = c.reply2.ensures ∙ ap (reply_to _ _) c.before.positions-in.ensures
+returns-2 c = c.reply-2.ensures ∙ ap (reply_to _ _) c.before.positions_in-positions.ensures
 
-pub net-positions-spec : {M : Type 1} → statement M
-net-positions-spec = tie.close (tie.spec reply-requires returns positions-in-requires reply-requires-2 returns-2)
+pub net_positions_spec : {M : Type 1} → statement M
+net_positions_spec = tie.close (tie.spec reply-requires returns positions-in-requires reply-requires-2 returns-2)

@@ -12,48 +12,48 @@ use Rattle.hadlephoga.proofs.Records.{length_places}
 use Rattle.hadlephoga.proofs.writing.put_record.Statement.{statement}
 use Rattle.hadlephoga.proofs.writing.put_record.Tie as tie
 
-wide : (f : tie.After-terms-fields) → length f.terms-fields.result ≡ terms_width
-wide f = ap length f.terms-fields.ensures
+wide : (f : tie.After-terms_fields-fields) → length f.terms_fields-fields.result ≡ terms_width
+wide f = ap length f.terms_fields-fields.ensures
 
 long : (s : tie.Start) → length s.args.deal.collateral.items ≡ list_limit
-long s = search (unmapped, s.well-formed)
+long s = search (unmapped, s.well_formed)
 
 -- the place behind the collateral
-behind-collateral : (p : tie.After-put-collateral) → (p.put-collateral.result ≡ guarantee_count_at) × (length p.put-collateral.new.0 ≡ length p.before.before.before.before.before.before.before.before.before.before.before.before.before.before.before.before.args.list.now)
+behind-collateral : (p : tie.After-put_collateral-next) → (p.put_collateral-next.result ≡ guarantee_count_at) × (length p.put_collateral-next.new.list ≡ length p.before.before.before.before.before.before.before.before.before.before.before.before.before.before.before.before.args.list.now)
 behind-collateral p =
     let n = p.before.before.before.before.before in
     let t = n.before.before.before.before.before in
     let s = t.before.before.before.before.before.before in
     let e = length_places collateral_fields collateral_width (λ x. refl) s.args.deal.collateral.items (long s) in
-    (omega (arith, p.put-collateral.ensures.ends, n.put-number.ensures.ends, t.put-numbers.ensures.ends, wide t.before.before.before, e), p.put-collateral.auto.0 ∙ n.put-number.auto.0 ∙ t.put-numbers.auto.0)
+    (omega (arith, p.put_collateral-next.ensures.ends, n.put_number-next.ensures.ends, t.put_numbers-next.ensures.ends, wide t.before.before.before, e), p.put_collateral-next.auto.list ∙ n.put_number-next.auto.list ∙ t.put_numbers-next.auto.list)
 
-terms-fields-requires : tie.Need-terms-fields-requires
+terms-fields-requires : tie.Need-terms_fields-fields-requires
 terms-fields-requires c κs = tt
 
-slice-aggregate-put-numbers : tie.Need-slice-aggregate-put-numbers
+slice-aggregate-put-numbers : tie.Need-slice_bounds-put_numbers-end
 slice-aggregate-put-numbers c = sym (wide c.before.before)
 
-put-numbers-requires : tie.Need-put-numbers-requires
+put-numbers-requires : tie.Need-put_numbers-next-requires
 put-numbers-requires c κs = search tests
 
-put-number-requires : tie.Need-put-number-requires
+put-number-requires : tie.Need-put_number-next-requires
 put-number-requires c κs = search tests
 
-put-collateral-requires : tie.Need-put-collateral-requires
+put-collateral-requires : tie.Need-put_collateral-next-requires
 put-collateral-requires c κs = search tests
 
-put-number-requires-2 : tie.Need-put-number-requires-2
+put-number-requires-2 : tie.Need-put_number-next-requires-2
 put-number-requires-2 c κs =
     let p = c.before.before.before.before in
     omega (arith, (behind-collateral p).0, (behind-collateral p).1, p.before.before.before.before.before.before.before.before.before.before.before.before.before.before.before.before.requires)
 
-put-guarantees-requires : tie.Need-put-guarantees-requires
+put-guarantees-requires : tie.Need-put_guarantees-requires
 put-guarantees-requires c κs =
     let n = c.before.before.before.before in
     let p = n.before.before.before.before.before in
-    omega (arith, n.put-number2.ensures.ends, n.put-number2.auto.0, (behind-collateral p).0, (behind-collateral p).1, p.before.before.before.before.before.before.before.before.before.before.before.before.before.before.before.before.requires)
+    omega (arith, n.put_number-next-2.ensures.ends, n.put_number-next-2.auto.list, (behind-collateral p).0, (behind-collateral p).1, p.before.before.before.before.before.before.before.before.before.before.before.before.before.before.before.before.requires)
 
-same_length : tie.Need-same-length
+same_length : tie.Need-shape_of-list
 same_length c = search tests
 
 returns : tie.Need-returns
@@ -64,11 +64,11 @@ returns c =
     let p = m.before.before.before.before.before in
     let n = p.before.before.before.before.before in
     let t = n.before.before.before.before.before in
-    let terms = rw t.before.before.before.terms-fields.ensures at t.put-numbers.ensures in
-    five_parts terms n.put-number.ensures p.put-collateral.ensures m.put-number2.ensures g.put-guarantees.ensures
+    let terms = rw t.before.before.before.terms_fields-fields.ensures at t.put_numbers-next.ensures in
+    five_parts terms n.put_number-next.ensures p.put_collateral-next.ensures m.put_number-next-2.ensures g.put_guarantees.ensures
 
-pub put-record-spec : {M : Type 1} → statement M
-put-record-spec =
+pub put_record_spec : {M : Type 1} → statement M
+put_record_spec =
     tie.close
     (tie.spec
     terms-fields-requires
