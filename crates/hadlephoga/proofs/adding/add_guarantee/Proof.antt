@@ -42,14 +42,9 @@ same_length c = search tests
 returns-3 : tie.Need-returns
 unfolding numbers_with_guarantee add_guarantee_refusal
 returns-3 c =
-    let p = c.before.before in
-    let a = p.before.before in
-    let i = a.before in
-    let d = i.before in
-    let else = d.before.before in
-    let own = adding_by_deal _ _ _ _ else.if-item-ne-SENT_GUARANTEE_WIDTH.false else.if-numbers-ne-RECORD_LENGTH.false in
-    let added = rw (d.deal_in-deal.ensures, i.guarantee_sent.ensures) at a.add_guarantee-reply.ensures in
-    (p.put_reply.ensures.0 ∙ added.0 ∙ sym own, rw (added.0 ∙ sym own, added.1) at p.put_reply.ensures.1)
+    let own = adding_by_deal _ _ _ _ c.if-item-ne-SENT_GUARANTEE_WIDTH.false c.if-numbers-ne-RECORD_LENGTH.false in
+    let added = rw (c.deal_in-deal.ensures, c.guarantee_sent.ensures) at c.add_guarantee-reply.ensures in
+    (c.put_reply.ensures.0 ∙ added.0 ∙ sym own, rw (added.0 ∙ sym own, added.1) at c.put_reply.ensures.1)
 
 pub add_guarantee_spec : {M : Type 1} → statement M
 add_guarantee_spec =

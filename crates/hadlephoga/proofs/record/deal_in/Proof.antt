@@ -10,8 +10,8 @@ use Rattle.hadlephoga.specs.Records.{deal_in}
 use Rattle.hadlephoga.proofs.record.deal_in.Statement.{statement}
 use Rattle.hadlephoga.proofs.record.deal_in.Tie as tie
 
-wide : (c : tie.After-terms-in-arg) → length (take terms_width c.before.before.args.numbers.now) ≡ terms_width
-wide c = length-take-le terms_width c.before.before.args.numbers.now (omega (arith, c.before.before.requires))
+wide : (c : tie.After-shared_slice_known-1) → length (take terms_width c.args.numbers.now) ≡ terms_width
+wide c = length-take-le terms_width c.args.numbers.now (omega (arith, c.requires))
 
 slice-aggregate-terms-in : tie.Need-slice_bounds-terms_in-end
 slice-aggregate-terms-in c = sym (wide c)
@@ -58,11 +58,8 @@ shared-slice-read-t23 c = search tests
 returns : tie.Need-returns
 unfolding deal_in
 returns c =
-    let g = c.before.before in
-    let p = g.before.before in
-    let t = p.before.before in
-    let e = rw rest_part at g.guarantee_items-guaranteed.ensures in
-    rw (t.terms_in-terms.ensures, p.collateral_items-pledged.ensures, e)
+    let e = rw rest_part at c.guarantee_items-guaranteed.ensures in
+    rw (c.terms_in-terms.ensures, c.collateral_items-pledged.ensures, e)
 
 pub deal_in_spec : {M : Type 1} → statement M
 deal_in_spec =
