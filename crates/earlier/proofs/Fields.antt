@@ -13,7 +13,7 @@ use Rattle.base.specs.Range.{within}
 use Rattle.base.proofs.Choice.{never}
 use Rattle.base.proofs.Every.{both}
 use Rattle.base.proofs.Range.{bounds, inside}
-use Rattle.base.proofs.Tests.{and_true, not-false}
+use Rattle.base.proofs.Tests.{and_true, not_false}
 use Rattle.deal.specs.Assets.{is_debt, life_allowed}
 use Rattle.deal.specs.Checks.{field_tests}
 use Rattle.deal.specs.Collateral.{collateral_checks}
@@ -56,7 +56,7 @@ refusal_stays : (full : Bool) (c : FieldChecks) (ranges : Bool) → (c.ranges �
     first_met (6 when full ∷ field_tests (with_ranges c ranges)) ≡ first_met (6 when full ∷ field_tests c)
 refusal_stays full c ranges more e =
     first_eased (6 when full ∷ 1 when not c.amount ∷ 2 when not c.codes ∷ 3 when not c.steps ∷ 4 when not c.currency ∷ [])
-    5 (not c.ranges) (not ranges) (7 when not c.maturity ∷ 8 when not c.conditions ∷ []) (λ h. not-false ranges (more (held c.ranges h))) e
+    5 (not c.ranges) (not ranges) (7 when not c.maturity ∷ 8 when not c.conditions ∷ []) (λ h. not_false ranges (more (held c.ranges h))) e
 
 -- what was not a 5, or holds no day above the lower limit
 abbrev pub Kept : ℕ → Bool → Type 0

@@ -119,7 +119,7 @@ answers_now edition serial (deal ∷ deals) = rw (deal_now edition deal, answers
 
 pub refusal_now : (book : List ℕ) (places : ℕ) → book_refusal_by in_force book places ≡ book_refusal book places
 unfolding book_refusal_by book_tests_by book_refusal book_tests
-refusal_now book places = refl
+refusal_now book n = refl
 
 deals_now : (book : List ℕ) (places : ℕ) → answered_deals_by in_force book places ≡ answered_deals book places
 unfolding answered_deals_by answered_deals

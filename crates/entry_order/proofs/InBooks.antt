@@ -131,6 +131,8 @@ module _ (edition : ℕ) where
 
   pub alike_answers : (serial : ℕ) (ds es : List DealLines) → AlikeDeals edition ds es → answers_from edition serial ds ≡ answers_from edition serial es
   alike_answers serial [] [] a = refl
+  alike_answers serial [] (e ∷ es) a = elim a [ ]
+  alike_answers serial (d ∷ ds) [] a = elim a [ ]
   alike_answers serial (d ∷ ds) (e ∷ es) a =
       answers_more edition serial d ds
       ∙ ap (λ (x : List ℕ). serial ∷ (x ++ answers_from edition (serial + 1) ds)) (alike_answer d e a.0)

@@ -49,9 +49,9 @@ module _ (d d' : Deal) (a : accepted d ≡ true) (a' : accepted d' ≡ true) (sa
   pub same_collateral_outcomes : Reordered (report_of d).collateral (report_of d').collateral
   same_collateral_outcomes =
       rw (same_table, collateral_places_lem table d a, collateral_places_lem table d' a', same.terms)
-      (places_reordered list_limit no_collateral (map_reordered (collateral_report table d'.terms) same.collateral))
+      (places_reordered list_limit no_collateral (map_reordered (collateral_report (table_for d'.terms) d'.terms) same.collateral))
 
   pub same_guarantee_outcomes : Reordered (map (λ r. r.outcome) (report_of d).guarantees) (map (λ r. r.outcome) (report_of d').guarantees)
   same_guarantee_outcomes =
       rw (same_table, guarantee_outcomes table d a, guarantee_outcomes table d' a', same.terms)
-      (places_reordered list_limit (Valued no_valuation) (map_reordered (guarantee_outcome table d'.terms) same.guarantees))
+      (places_reordered list_limit (Valued no_valuation) (map_reordered (guarantee_outcome (table_for d'.terms) d'.terms) same.guarantees))

@@ -54,6 +54,8 @@ all_answered book a = if_true _ _ _ (eq-eqb _ 0 a)
 
 alike_length : (edition : ℕ) (ds es : List DealLines) → AlikeDeals edition ds es → length ds ≡ length es
 alike_length edition [] [] a = refl
+alike_length edition [] (e ∷ es) a = elim a [ ]
+alike_length edition (d ∷ ds) [] a = elim a [ ]
 alike_length edition (d ∷ ds) (e ∷ es) a = ap suc (alike_length edition ds es a.1)
 
 -- EVERY BYTE THAT IS PRINTED STAYS, where each deal is the same or none of its lines is refused
