@@ -6,7 +6,7 @@ use mathlib.Core.List.{List, [], ◌∷◌, ◌++◌}
 use lib.Dec.{eqb}
 use borrow.Author.Tests.{eqb-true, eq-eqb}
 use Rattle.base.specs.Choice.{if◌then◌else◌}
-use Rattle.base.specs.FirstMet.{Test, ◌when◌, first_or, first_met, NoneMet, Here, FirstIs, ExactFor, Exact}
+use Rattle.base.specs.FirstMet.{Test, ◌when◌, first_or, first_met, NoneMet, Here, FirstIs, Exact}
 use Rattle.base.proofs.Choice.{never, either, if_true, if_false}
 use Rattle.base.proofs.Every.{both}
 use Rattle.base.proofs.Tests.{and_true}

@@ -12,8 +12,8 @@ use Rattle.base.proofs.Compare.{side}
 use Rattle.base.proofs.Sum.{sum_append}
 use Rattle.cover.specs.Cover.{lower_weighted, equal, before}
 use Rattle.cover.specs.declared.protection.Protection.{Protection}
+
 -- the worked examples are checked before the laws
-use Rattle.cover.proofs.Examples.{later_lower_weighted_portions, two_equal_portions, unrounded}
 
 module _ (w : ℕ) (p : Protection) where
   pub lower_weighted_in : p.weight < w → lower_weighted w p ≡ p.value

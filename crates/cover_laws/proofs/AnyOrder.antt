@@ -18,8 +18,8 @@ use Rattle.cover_laws.specs.ByHand.{sum_by_hand}
 use Rattle.cover_laws.specs.Layers.{EachLowerWeighted}
 use Rattle.cover_laws.proofs.Layers.{weighted_layers}
 use Rattle.cover_laws.proofs.Order.{in_rising_order, sum_sort}
+
 -- the worked examples are checked before the laws
-use Rattle.cover_laws.proofs.OrderShows.{worked_by_hand}
 
 -- THE SUM BY HAND IS THE WEIGHTED SUM
 pub by_hand : (W E : ℕ) (ps : List Protection) → sum_by_hand W E ps ≡ weighted_sum W E ps

@@ -7,7 +7,6 @@ use native.Mathlib.Nat.{zero-sub}
 use native.Mathlib.Omega.{arith}
 use Rattle.base.proofs.EachElement.{each_map}
 use Rattle.cover.specs.Cover.{lower_weighted, portion, covered, weighted_sum}
-use Rattle.base.specs.Each.{Each}
 use Rattle.base.specs.Sum.{sum_below, sum_of}
 use Rattle.cover_laws.specs.Layers.{LeftOutOrLowerWeighted, EachLowerWeighted, layers}
 use Rattle.cover.specs.declared.protection.Protection.{Protection}

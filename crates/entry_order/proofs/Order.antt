@@ -1,7 +1,6 @@
 -- Any order of the same items: the same figures, and no order is refused where one is accepted. 02: L7. Assumes nothing.
 use mathlib.Core.Path.{◌≡◌, refl, sym, ◌∙◌, ap}
 use mathlib.Core.Bool.{true}
-use mathlib.Core.List.{map}
 use native.Mathlib.Omega.{arith}
 use Rattle.base.specs.Reordered.{Reordered}
 use Rattle.base.proofs.Reordered.{all_reordered, length_reordered, map_reordered, sum_reordered}
@@ -16,7 +15,7 @@ use Rattle.deal.specs.declared.deal.Deal.{Deal}
 use Rattle.deal_laws.proofs.Views.{collateral_fits, fits_view, guarantee_fits, view_fits}
 use Rattle.relief.specs.Collateral.{collateral_outcome}
 use Rattle.relief.specs.Exposure.{collateral_total, exposure_after, pieces_of, risk_weighted_amount_of}
-use Rattle.relief.specs.Guarantees.{guarantee_outcome, protection_of}
+use Rattle.relief.specs.Guarantees.{protection_of}
 use Rattle.relief.specs.Outcomes.{outcome_value}
 use Rattle.relief.specs.Report.{full_report, report_of, report_under}
 use Rattle.relief.specs.Weights.{counterparty_weight_of}

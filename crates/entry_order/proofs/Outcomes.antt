@@ -19,8 +19,6 @@ use Rattle.deal.specs.declared.deal.Deal.{Deal}
 use Rattle.relief.specs.Guarantees.{guarantee_outcome}
 use Rattle.relief.specs.Report.{collateral_report, collateral_reports, full_report, guarantee_reports, no_collateral, no_guarantee, report_of, report_under}
 use Rattle.relief.specs.declared.outcome.Outcome.TheVariants.{Valued}
-use Rattle.relief.specs.declared.collateral.CollateralReport.{CollateralReport}
-use Rattle.relief.specs.declared.outcome.Outcome.{Outcome}
 use Rattle.relief.proofs.Reports.{portion_each, report_accepted, shares}
 use Rattle.entry_order.specs.SameItems.{SameItems}
 

@@ -13,7 +13,7 @@ use Rattle.deal.specs.declared.collateral.Collateral.{Collateral}
 use Rattle.deal.specs.declared.guarantee.Guarantee.{Guarantee}
 use Rattle.deal.specs.declared.deal.Deal.{Deal}
 use Rattle.deal.proofs.BothWays.{collateral_back, collateral_forth, guarantee_back, guarantee_forth, terms_back, terms_forth}
-use Rattle.hadlephoga.specs.Records.{collateral_count_at, collateral_length, deal_in, deal_numbers, first_collateral, first_guarantee, guarantee_count_at, guarantees_length, in_order, slices, record_length}
+use Rattle.hadlephoga.specs.Records.{collateral_count_at, collateral_length, deal_in, deal_numbers, first_collateral, first_guarantee, guarantee_count_at, in_order, slices, record_length}
 use Rattle.hadlephoga.proofs.Numbers.{length_in_order}
 use Rattle.hadlephoga.proofs.Pieces.{length_slices, read_back, written_back}
 

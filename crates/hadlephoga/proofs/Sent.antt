@@ -1,11 +1,11 @@
 -- A netting set sent as numbers is answered as the set: each number is the field that the paper names in its place, and none is lost. Assumes nothing.
-use Prim.Native.Nat.{ℕ, ◌+◌, ◌*◌, ◌-◌, ◌/◌}
+use Prim.Native.Nat.{ℕ, ◌+◌, ◌*◌}
 use mathlib.Core.Path.{◌≡◌, refl, sym, ap, ap₂, ◌∙◌}
 use mathlib.Core.List.{List, [], ◌∷◌, ◌++◌, map}
 use native.Mathlib.Omega.{arith}
-use lib.ListN.{drop, length, length-append}
-use Rattle.netting.specs.Fields.{position_in, position_width, set_terms_in}
-use Rattle.netting.specs.Reply.{refused_reply, reply_to}
+use lib.ListN.{length, length-append}
+use Rattle.netting.specs.Fields.{position_in, position_width}
+use Rattle.netting.specs.Reply.{reply_to}
 use Rattle.netting.specs.declared.position.Position.{Position}
 use Rattle.netting.specs.declared.terms.SetTerms.{SetTerms}
 use Rattle.hadlephoga.specs.Netting.{netting_reply, position_count, positions_in}

@@ -1,8 +1,8 @@
 -- The laws of sums that count each number once. Assumes nothing.
 use Prim.Native.Nat.{ℕ, ◌+◌, ◌*◌, ◌≤◌, ◌<◌}
-use mathlib.Core.Path.{◌≡◌, refl, sym, ap, ap₂, ◌∙◌}
+use mathlib.Core.Path.{◌≡◌, refl, ap, ◌∙◌}
 use mathlib.Core.Bool.{Bool, true, false, ◌||◌}
-use mathlib.Core.List.{List, [], ◌∷◌, ◌++◌}
+use mathlib.Core.List.{List, [], ◌∷◌}
 use native.Mathlib.Omega.{arith}
 use lib.Dec.{eqb}
 use lib.ListN.{length, take, drop, get_or}
@@ -10,7 +10,7 @@ use borrow.Author.Tests.{eqb-true, eq-eqb}
 use Rattle.base.specs.Choice.{if◌then◌else◌}
 use Rattle.base.specs.Sum.{sum_of}
 use Rattle.base.proofs.Compare.{eqb_turned}
-use Rattle.base.proofs.Choice.{if_true, if_false, either, either₂, never}
+use Rattle.base.proofs.Choice.{if_true, if_false, either, either₂}
 use Rattle.base.proofs.Tests.{or_both}
 use Rattle.netting.specs.Nets.{only}
 use Rattle.base.specs.Each.{Each}

@@ -8,7 +8,6 @@ use lib.ListN.{get_or, length, replicate}
 use Rattle.base.specs.All.{all_pass}
 use Rattle.netting.specs.Fields.{position_in, set_terms_in}
 use Rattle.netting.specs.Reply.{reply_to}
-use Rattle.netting.specs.declared.set.NettingReply.{NettingReply}
 use Rattle.netting.proofs.Computed.{computed}
 
 -- each number is the field that the paper names in its place

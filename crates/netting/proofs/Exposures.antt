@@ -15,7 +15,7 @@ use Rattle.base.proofs.Sum.{sum_add, sum_eq}
 use Rattle.signed.specs.Signed.{◌less◌, at_least_zero}
 use Rattle.netting.specs.Groups.{member}
 use Rattle.netting.specs.Nets.{lent, received, only, net}
-use Rattle.netting.specs.Exposure.{security_add_on, currency_add_on, exposure, exposure_of, exposure_after_netting, net_exposure}
+use Rattle.netting.specs.Exposure.{security_add_on, currency_add_on, exposure, exposure_of, net_exposure}
 use Rattle.netting.specs.Haircuts.{currency_haircut_over, security_haircut}
 use Rattle.netting.specs.Limits.{Fitting}
 use Rattle.netting.specs.Positions.{amount_of}

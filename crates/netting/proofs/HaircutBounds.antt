@@ -1,5 +1,5 @@
 -- The haircuts of a set are below the whole, and those of one position together are too, under every table. Assumes nothing.
-use Prim.Native.Nat.{ℕ, ◌+◌, ◌≤◌}
+use Prim.Native.Nat.{◌+◌, ◌≤◌}
 use mathlib.Core.Path.{◌≡◌}
 use native.Mathlib.Omega.{arith}
 use Rattle.base.specs.Choice.{if◌then◌else◌}

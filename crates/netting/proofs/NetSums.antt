@@ -20,7 +20,6 @@ use Rattle.netting.specs.declared.position.Position.{Position}
 use Rattle.signed.proofs.Less.{less_zero, less_fits, less_abs}
 use Rattle.signed.proofs.Machine.{added}
 -- the worked sets are checked before the laws
-use Rattle.netting.proofs.Examples.{refused_right, worked_right}
 use Rattle.netting.proofs.Sides.{sides, only_le, only_sides, lent_in, lent_out, received_in, received_out}
 
 -- one amount is within their sum

@@ -1,12 +1,11 @@
 -- The refusals of a set one after the other, for the code that tests them, and what a set has that none of them meets. Assumes nothing.
 use Prim.Native.Nat.{ℕ, ◌+◌, ◌≤◌, ◌<◌}
 use mathlib.Core.Path.{◌≡◌, refl, ap, ◌∙◌}
-use mathlib.Core.Bool.{true, false, ◌&&◌}
+use mathlib.Core.Bool.{true, false}
 use mathlib.Core.List.{List, [], ◌∷◌, ◌++◌}
-use native.Mathlib.Omega.{arith}
 use lib.Dec.{eqb, ltb}
 use lib.ListN.{length, take, drop, get_or}
-use borrow.Author.Tests.{eq-eqb, leb-true, le-ltb, lt-ltb, ltb-false, not-false as held}
+use borrow.Author.Tests.{leb-true, le-ltb, lt-ltb, ltb-false, not-false as held}
 use Rattle.base.specs.Any.{any, any_two}
 use Rattle.base.specs.Each.{Each}
 use Rattle.base.specs.FirstMet.{NoneMet, ◌when◌, first_met}

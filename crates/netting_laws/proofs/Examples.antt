@@ -1,28 +1,23 @@
 -- Betterments of a netting set that lower its figures, a net that changes side and refused ones among them, computed. Assumes nothing.
 use Prim.Native.Nat.{ℕ, ◌+◌, ◌≤◌}
 use mathlib.Core.Path.{◌≡◌, refl}
-use mathlib.Core.Bool.{true, false}
+use mathlib.Core.Bool.{true}
 use mathlib.Core.List.{List, [], ◌∷◌, map}
 use native.Mathlib.Omega.{arith}
-use lib.IntN.{ℤ, pos, negsuc}
-use lib.ListN.{length}
-use Rattle.base.specs.Any.{any}
-use Rattle.base.specs.Choice.{if◌then◌else◌}
-use Rattle.base.specs.Sum.{sum_below, sum_of}
-use Rattle.signed.specs.Signed.{◌less◌}
+use lib.IntN.{pos, negsuc}
 use Rattle.netting.specs.Exposure.{currency_add_on, security_add_on}
 use Rattle.netting.specs.Fields.{position_in, set_terms_in}
 use Rattle.netting.specs.Groups.{member}
 use Rattle.netting.specs.Haircuts.{currency_haircut_over, security_haircut}
-use Rattle.netting.specs.Nets.{lent, net, only, received}
+use Rattle.netting.specs.Nets.{net}
 use Rattle.netting.specs.Reply.{set_reply}
 use Rattle.netting.specs.declared.group.Group.{Group}
 use Rattle.netting.specs.declared.position.Position.{Position}
 use Rattle.netting.specs.declared.set.NettingSet.{NettingSet}
 use Rattle.netting.specs.declared.terms.SetTerms.{SetTerms}
 use Rattle.netting.proofs.Computed.{computed}
-use Rattle.netting_laws.specs.Betterments.{BetterSet, SetBetterments, SetView, accepted_set, accepted_set_view, lent_alone, lent_only, set_with}
-use Rattle.netting_laws.specs.ByNumber.{haircut_for, of_currency, of_security, sum_of_numbers}
+use Rattle.netting_laws.specs.Betterments.{BetterSet, SetBetterments, accepted_set, accepted_set_view, lent_alone, lent_only, set_with}
+use Rattle.netting_laws.specs.ByNumber.{haircut_for, of_currency, of_security}
 use Rattle.netting_laws.proofs.Theorem.{set_never_raised}
 
 -- a bank at step 3, revalued every so many days

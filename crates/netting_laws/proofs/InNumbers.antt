@@ -1,6 +1,6 @@
 -- E* of an accepted set in natural numbers alone: sides by their numbers, absolute differences, sums over all securities and currencies. Assumes nothing.
-use Prim.Native.Nat.{ℕ, suc, ◌+◌, ◌*◌, ◌-◌, ◌≤◌, min}
-use mathlib.Core.Path.{◌≡◌, refl, sym, ap, ap₂, ◌∙◌}
+use Prim.Native.Nat.{ℕ, suc, ◌+◌, ◌*◌, ◌-◌, min}
+use mathlib.Core.Path.{◌≡◌, refl, ap, ap₂, ◌∙◌}
 use mathlib.Core.Bool.{Bool, true, false, ◌&&◌}
 use mathlib.Core.List.{List, [], ◌∷◌}
 use native.Mathlib.Decide.{ℕ_discrete}
@@ -11,17 +11,14 @@ use borrow.Author.Tests.{eq-eqb, ne_eqb}
 use Rattle.base.specs.Choice.{if◌then◌else◌}
 use Rattle.base.specs.Each.{Each}
 use Rattle.base.specs.Rounding.{round_up}
-use Rattle.base.specs.Sum.{sum_below, sum_of}
-use Rattle.base.proofs.Choice.{if_true, if_false}
+use Rattle.base.specs.Sum.{sum_of}
 use Rattle.base.proofs.EachElement.{each_then}
 use Rattle.base.proofs.SumBelow.{below_eq}
-use Rattle.base.proofs.Tests.{and_true}
 use Rattle.signed.proofs.Less.{less_abs}
 use Rattle.netting.specs.Exposure.{exposure_after_netting}
 use Rattle.netting.specs.Groups.{member}
 use Rattle.netting.specs.Haircuts.{currency_haircut_over, security_haircut}
 use Rattle.netting.specs.Nets.{lent, net, only, received}
-use Rattle.netting.specs.Positions.{is_lent}
 use Rattle.netting.specs.declared.group.Group.{Group}
 use Rattle.netting.specs.declared.position.Position.{Position}
 use Rattle.netting.specs.declared.terms.SetTerms.{SetTerms}

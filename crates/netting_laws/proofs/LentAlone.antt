@@ -1,20 +1,17 @@
 -- The lent positions of an accepted set are an accepted set. Assumes nothing.
 use Prim.Native.Nat.{ℕ, ◌+◌, ◌≤◌}
-use mathlib.Core.Path.{◌≡◌, refl, sym, ap, subst, ◌∙◌}
-use mathlib.Core.Bool.{Bool, true, false}
+use mathlib.Core.Path.{◌≡◌, refl}
+use mathlib.Core.Bool.{Bool, false}
 use mathlib.Core.List.{List, [], ◌∷◌}
 use native.Mathlib.Nat.{le_trans}
 use native.Mathlib.Omega.{arith}
-use lib.Dec.{eqb}
-use lib.ListN.{length, take, length-take}
-use lib.Seq.{take_at}
+use lib.ListN.{length, length-take}
 use Rattle.base.specs.Any.{any, any_two}
 use Rattle.base.specs.Each.{Each}
-use Rattle.base.specs.FirstMet.{first_met}
 use Rattle.base.specs.Sum.{sum_of}
 use Rattle.base.proofs.Choice.{either}
 use Rattle.base.proofs.Tests.{or_both, or_false}
-use Rattle.netting.specs.Positions.{amount_of, fields_of_each, is_lent, position_refusal}
+use Rattle.netting.specs.Positions.{amount_of, is_lent, position_refusal}
 use Rattle.netting.specs.Refusals.{disagree, received_not_eligible, set_refusal}
 use Rattle.netting.specs.Reply.{positions_of}
 use Rattle.netting.specs.declared.position.Position.{Position}

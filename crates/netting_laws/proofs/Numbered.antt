@@ -1,17 +1,16 @@
 -- A sum that counts each number once is the sum over all numbers; so are the add-ons of an accepted set. Assumes nothing.
-use Prim.Native.Nat.{ℕ, zero, suc, ◌+◌, ◌*◌, ◌≤◌, ◌<◌}
-use mathlib.Core.Path.{◌≡◌, refl, sym, ap, ap₂, ◌∙◌}
+use Prim.Native.Nat.{ℕ, suc, ◌+◌, ◌*◌, ◌<◌}
+use mathlib.Core.Path.{◌≡◌, refl, sym, ap, ◌∙◌}
 use mathlib.Core.Bool.{Bool, true, false, ◌||◌}
-use mathlib.Core.List.{List, [], ◌∷◌, ◌++◌}
+use mathlib.Core.List.{List, [], ◌∷◌}
 use native.Mathlib.Decide.{ℕ_discrete}
 use native.Mathlib.Omega.{arith}
 use lib.Dec.{eqb}
 use lib.IntN.{nat_abs}
-use borrow.Author.Tests.{eq-eqb, eqb-true, eqb-false, ne_eqb}
+use borrow.Author.Tests.{eq-eqb, eqb-true, ne_eqb}
 use Rattle.base.specs.Any.{any, any_two}
 use Rattle.base.specs.Choice.{if◌then◌else◌}
 use Rattle.base.specs.Each.{Each}
-use Rattle.base.specs.FirstMet.{first_met}
 use Rattle.base.specs.Range.{within}
 use Rattle.base.specs.Sum.{sum_below, sum_of}
 use Rattle.base.proofs.Choice.{either, if_true, if_false}
@@ -25,7 +24,7 @@ use Rattle.netting.specs.Groups.{member}
 use Rattle.netting.specs.Haircuts.{security_haircut}
 use Rattle.netting.specs.Nets.{lent, net, only, received}
 use Rattle.netting.specs.Once.{occurs, sum_once}
-use Rattle.netting.specs.Positions.{fields_of_each, security_allowed}
+use Rattle.netting.specs.Positions.{security_allowed}
 use Rattle.netting.specs.Refusals.{disagree}
 use Rattle.netting.specs.declared.group.Group.{Group}
 use Rattle.netting.specs.declared.position.Position.{Position}

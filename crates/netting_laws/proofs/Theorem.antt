@@ -1,17 +1,15 @@
 -- THE BETTERMENTS OF A NETTING SET NEVER RAISE ITS WEIGHTED AMOUNT, nor E*. Assumes nothing.
-use Prim.Native.Nat.{ℕ, ◌+◌, ◌*◌, ◌-◌, ◌≤◌, ◌<◌}
+use Prim.Native.Nat.{ℕ, ◌+◌, ◌-◌, ◌≤◌, ◌<◌}
 use mathlib.Core.Path.{◌≡◌, refl, sym, ap, subst, ◌∙◌}
 use mathlib.Core.Bool.{Bool, true, false}
-use mathlib.Core.List.{List, [], ◌∷◌, ◌++◌}
+use mathlib.Core.List.{List, ◌∷◌, ◌++◌}
 use mathlib.Core.Logic.{◌⊎◌, inl, inr}
 use native.Mathlib.Nat.{le_trans, mul-le-mul_right}
 use native.Mathlib.Omega.{arith}
 use lib.Dec.{eqb}
 use lib.ListN.{length}
 use lib.Seq.{take_at}
-use borrow.Author.Tests.{eq-eqb, eqb-true, leb-true, ne_eqb}
-use Rattle.base.specs.Choice.{if◌then◌else◌}
-use Rattle.base.specs.Places.{in_places}
+use borrow.Author.Tests.{eq-eqb, eqb-true, ne_eqb}
 use Rattle.base.specs.Sum.{sum_of}
 use Rattle.base.proofs.EachElement.{each_of}
 use Rattle.base.proofs.Rounding.{round_up_mono}
@@ -21,7 +19,7 @@ use Rattle.netting.specs.Exposure.{exposure_after_netting}
 use Rattle.netting.specs.Haircuts.{currency_haircut_over, security_haircut, set_period}
 use Rattle.netting.specs.Nets.{lent}
 use Rattle.netting.specs.Positions.{is_lent, received_side}
-use Rattle.netting.specs.Refusals.{position_limit, set_refusal}
+use Rattle.netting.specs.Refusals.{set_refusal}
 use Rattle.netting.specs.Reply.{positions_of, reply_to, set_reply, set_weight, weighted_amount}
 use Rattle.netting.specs.declared.position.Position.{Position}
 use Rattle.netting.specs.declared.set.NettingReply.{NettingReply}
@@ -30,7 +28,7 @@ use Rattle.netting.specs.declared.terms.SetTerms.{SetTerms}
 use Rattle.netting.proofs.HaircutBounds.{together_low}
 use Rattle.netting.proofs.Refusing.{PlainSet, plain_set, plain_set_terms}
 use Rattle.netting.proofs.Replies.{accepted_reply, refused_reply_lem}
-use Rattle.netting_laws.specs.Betterments.{BetterSet, NoHigherFigure, SetBetterments, SetNeverRaised, SetView, accepted_set, accepted_set_view, lent_alone, lent_only, set_view_of, set_with, with_amount, with_interval}
+use Rattle.netting_laws.specs.Betterments.{BetterSet, SetBetterments, SetNeverRaised, SetView, accepted_set, accepted_set_view, lent_alone, lent_only, set_view_of, set_with, with_amount, with_interval}
 use Rattle.netting_laws.proofs.Agreement.{agreeing}
 use Rattle.netting_laws.proofs.Falls.{Coverable, larger_no_worse, lent_alone_is, lent_alone_no_better, one_more_no_worse, smaller_cuts_no_worse}
 use Rattle.netting_laws.proofs.LentAlone.{lent_accepted}

@@ -16,9 +16,8 @@ use Rattle.relief.specs.declared.outcome.Outcome.TheVariants.{Valued, LeftOut}
 use Rattle.relief.specs.Grounds.{ground_number, ground_with}
 use Rattle.relief.specs.ByNumber.{place_of, place_with}
 use Rattle.relief.specs.Outcomes.{outcome_valuation, outcome_value, outcome_ground, outcome_left_out, outcome_for}
+
 -- the computed cases are checked before the laws
-use Rattle.relief.proofs.Cases.{collateral_order, guarantee_order, guarantee_value}
-use Rattle.relief.proofs.Losses.{collateral_places_lem, guarantee_places_lem}
 
 -- the ground with this number has this number
 abbrev pub Known : ℕ → Type 0

@@ -6,7 +6,6 @@ use lib.Dec.{eqb}
 use borrow.Author.Tests.{eq-eqb}
 use Rattle.base.proofs.Choice.{either₂, if_true}
 use Rattle.scaling.specs.Period.{holding_period, guarantee_period}
-use Rattle.scaling.specs.Scaling.{scaled}
 use Rattle.scaling.proofs.Scaled.{scaled_mono}
 use Rattle.valuation.specs.Haircuts.{scaled_currency_haircut, combined_haircut}
 

@@ -15,7 +15,6 @@ use Rattle.base.proofs.Choice.{never}
 use Rattle.base.proofs.Rounding.{round_up_is}
 use Rattle.signed.specs.Signed.{◌less◌, ceiling, at_least_zero}
 -- the examples are checked before the laws
-use Rattle.signed.proofs.Examples.{rounded}
 use Rattle.signed.proofs.Less.{less_cases}
 
 -- division drops the fraction: below 0 that rounds up ..

@@ -1,8 +1,7 @@
 -- Signed numbers, computed. Assumes nothing.
-use Prim.Native.Nat.{ℕ}
 use mathlib.Core.Path.{◌≡◌, refl}
-use mathlib.Core.List.{List, [], ◌∷◌, map}
-use lib.IntN.{ℤ, pos, negsuc, nat_abs}
+use mathlib.Core.List.{[], ◌∷◌, map}
+use lib.IntN.{pos, negsuc, nat_abs}
 use Rattle.base.specs.Rounding.{round_up}
 use Rattle.signed.specs.Signed.{◌less◌, at_least_zero, ceiling}
 

@@ -20,18 +20,18 @@ use Rattle.book.proofs.Answering.{answers_more, no_answers}
 use Rattle.book.proofs.answer.answer_deals.Statement.{statement}
 use Rattle.book.proofs.answer.answer_deals.Tie as tie
 
-abbrev toCome : List ℕ → ℕ → ℕ → List DealLines
-toCome lines at number = deals_from number (lines_of (drop at lines))
+abbrev to_come : List ℕ → ℕ → ℕ → List DealLines
+to_come lines at number = deals_from number (lines_of (drop at lines))
 
 record Holds (edition : ℕ) (lines before results : List ℕ) (at number deals : ℕ) : Type 0 where
-  written : take (deals * 4) results ++ answers_from edition (deals + 1) (toCome lines at number) ≡ answers_from edition 1 (toCome lines 0 2)
+  written : take (deals * 4) results ++ answers_from edition (deals + 1) (to_come lines at number) ≡ answers_from edition 1 (to_come lines 0 2)
   behind : drop (deals * 4) results ≡ drop (deals * 4) before
   inside : at ≤ length lines
   numbered : number ≤ at + 2
   few : deals ≤ at
   begins : own_first (drop at lines) ≡ false
   same : length results ≡ length before
-  room : (deals + length (toCome lines at number)) * 4 ≤ length before
+  room : (deals + length (to_come lines at number)) * 4 ≤ length before
 
 abbrev invariant-loop : tie.invariant-loop-at
 invariant-loop edition lines results₀ at₀ number₀ factors₀ deals₀ results at number factors deals = Holds edition lines results₀ results at number deals × BothTimeFactors factors
@@ -59,20 +59,20 @@ module _
   further : drop end rest ≡ drop (at + end) lines
   further = drop-drop end at lines
 
-  one_less : toCome lines at number ≡ first_deal number rest ∷ toCome lines (at + end) next
+  one_less : to_come lines at number ≡ first_deal number rest ∷ to_come lines (at + end) next
   one_less = deals_first number rest opens ∙ ap (λ ds. first_deal number rest ∷ ds) (read.others ∙ ap (λ t. deals_from next (lines_of t)) further)
 
-  fewer : length (toCome lines at number) ≡ length (toCome lines (at + end) next) + 1
+  fewer : length (to_come lines at number) ≡ length (to_come lines (at + end) next) + 1
   fewer = ap length one_less ∙ omega arith
 
   fits : deals * 4 + 4 ≤ length results
   fits = omega (arith, fewer, h.room, h.same)
 
-  after : answers_from edition (deals + 1) (toCome lines at number) ≡ four ++ answers_from edition (deals + 1 + 1) (toCome lines (at + end) next)
+  after : answers_from edition (deals + 1) (to_come lines at number) ≡ four ++ answers_from edition (deals + 1 + 1) (to_come lines (at + end) next)
   after =
       ap (answers_from edition (deals + 1)) one_less
-      ∙ answers_more edition (deals + 1) (first_deal number rest) (toCome lines (at + end) next)
-      ∙ ap (λ xs. (deals + 1) ∷ (xs ++ answers_from edition (deals + 1 + 1) (toCome lines (at + end) next))) answered
+      ∙ answers_more edition (deals + 1) (first_deal number rest) (to_come lines (at + end) next)
+      ∙ ap (λ xs. (deals + 1) ∷ (xs ++ answers_from edition (deals + 1 + 1) (to_come lines (at + end) next))) answered
 
   abbrev results' : List ℕ
   results' = paste results (deals * 4) four 4
@@ -95,9 +95,9 @@ module _
         same = length-paste results (deals * 4) four 4 fits four-long ∙ h.same;
         room = omega (arith, fewer, h.room);
         written =
-            ap (λ n. take n results' ++ answers_from edition (deals + 1 + 1) (toCome lines (at + end) next)) placed
-            ∙ ap (λ xs. xs ++ answers_from edition (deals + 1 + 1) (toCome lines (at + end) next)) (take-paste results (deals * 4) four 4 inner four-long)
-            ∙ append_assoc (take (deals * 4) results) four (answers_from edition (deals + 1 + 1) (toCome lines (at + end) next))
+            ap (λ n. take n results' ++ answers_from edition (deals + 1 + 1) (to_come lines (at + end) next)) placed
+            ∙ ap (λ xs. xs ++ answers_from edition (deals + 1 + 1) (to_come lines (at + end) next)) (take-paste results (deals * 4) four 4 inner four-long)
+            ∙ append_assoc (take (deals * 4) results) four (answers_from edition (deals + 1 + 1) (to_come lines (at + end) next))
             ∙ ap (λ xs. take (deals * 4) results ++ xs) (sym after)
             ∙ h.written;
         behind =
@@ -211,14 +211,14 @@ returns c =
     let edition = s.args.edition in
     let lines = s.args.lines.now in
     let before = s.args.results.now in
-    let none : answers_from edition (l.deals + 1) (toCome lines l.at l.number) ≡ [] = rw (no_lines_at lines l.at c.loop-at-test.false, no_deals, no_answers) in
-    let all : take (l.deals * 4) l.results ≡ answers_from edition 1 (toCome lines 0 2) =
+    let none : answers_from edition (l.deals + 1) (to_come lines l.at l.number) ≡ [] = rw (no_lines_at lines l.at c.loop-at-test.false, no_deals, no_answers) in
+    let all : take (l.deals * 4) l.results ≡ answers_from edition 1 (to_come lines 0 2) =
     sym (append-nil (take (l.deals * 4) l.results)) ∙ ap (λ xs. take (l.deals * 4) l.results ++ xs) (sym none) ∙ l.invariant.0.written in
     let fits : l.deals * 4 ≤ length l.results = omega (arith, l.invariant.0.room, l.invariant.0.same) in
-    let count : l.deals * 4 ≡ length (answers_from edition 1 (toCome lines 0 2)) = sym (length-take-le (l.deals * 4) l.results fits) ∙ ap length all in
+    let count : l.deals * 4 ≡ length (answers_from edition 1 (to_come lines 0 2)) = sym (length-take-le (l.deals * 4) l.results fits) ∙ ap length all in
     sym (take-append-drop (l.deals * 4) l.results)
     ∙ ap (λ xs. xs ++ drop (l.deals * 4) l.results) all
-    ∙ ap (λ xs. answers_from edition 1 (toCome lines 0 2) ++ xs) (l.invariant.0.behind ∙ ap (λ n. drop n before) count)
+    ∙ ap (λ xs. answers_from edition 1 (to_come lines 0 2) ++ xs) (l.invariant.0.behind ∙ ap (λ n. drop n before) count)
 
 pub answer_deals_spec : {M : Type 1} → statement M
 answer_deals_spec =

@@ -16,13 +16,13 @@ use Rattle.book.proofs.Grouping.{deals_first, deals_further, deals_counted, no_d
 use Rattle.book.proofs.deals.count_deals.Statement.{statement}
 use Rattle.book.proofs.deals.count_deals.Tie as tie
 
-abbrev toCome : List ℕ → ℕ → ℕ
-toCome lines at = length (deals_from 2 (lines_of (drop at lines)))
+abbrev to_come : List ℕ → ℕ → ℕ
+to_come lines at = length (deals_from 2 (lines_of (drop at lines)))
 
 record Holds (lines : List ℕ) (deals at : ℕ) : Type 0 where
   inside : at ≤ length lines
   few : deals ≤ at
-  counted : deals + toCome lines at ≡ toCome lines 0
+  counted : deals + to_come lines at ≡ to_come lines 0
 
 abbrev invariant-loop : tie.invariant-loop-at
 invariant-loop lines deals₀ at₀ deals at = Holds lines deals at
@@ -34,12 +34,12 @@ module _ (lines : List ℕ) (at : ℕ) (h : at < length lines) where
   abbrev end : ℕ
   end = at + length (first_line (drop at lines))
 
-  opened : opens_deal (drop at lines) ≡ true → toCome lines at ≡ toCome lines end + 1
+  opened : opens_deal (drop at lines) ≡ true → to_come lines at ≡ to_come lines end + 1
   opened e =
       ap length (deals_first 2 (drop at lines) e)
       ∙ rw (drop-drop (length (first_line (drop at lines))) at lines, deals_counted 3 2 (lines_of (drop end lines)), add-one)
 
-  passed : opens_deal (drop at lines) ≡ false → toCome lines at ≡ toCome lines end
+  passed : opens_deal (drop at lines) ≡ false → to_come lines at ≡ to_come lines end
   passed e = ap length (deals_further 2 lines at h e) ∙ deals_counted 3 2 _
 
 loop-holds : tie.Need-loop-at-init invariant-loop decreases-loop
@@ -82,13 +82,13 @@ added : (c : tie.After-line_end-at invariant-loop decreases-loop)
     → let l = c.before.before.before.before.before in
     let lines = l.before.before.args.lines.now in
     let deals = c.before.if-opens_deal.deals in
-    (deals ≤ l.loop-at.deals + 1) × (deals + toCome lines c.line_end-at.result ≡ l.loop-at.deals + toCome lines l.loop-at.at)
+    (deals ≤ l.loop-at.deals + 1) × (deals + to_come lines c.line_end-at.result ≡ l.loop-at.deals + to_come lines l.loop-at.at)
 added c =
     let l = c.before.before.before.before.before in
     let lines = l.before.before.args.lines.now in
     let h = c.before.before.before.before.loop-at-test.true in
     let told = sym (ap opens_deal (rest_part lines l.loop-at.at)) ∙ sym c.before.before.opens_deal.ensures in
-    let end = ap (toCome lines) c.line_end-at.ensures in
+    let end = ap (to_come lines) c.line_end-at.ensures in
     ⊎_elim
     (λ w. let k = opened lines l.loop-at.at h (told ∙ w.if-opens_deal.true) in (omega (arith, w.deals-is), omega (arith, w.deals-is, k, end)))
     (λ w. let k = passed lines l.loop-at.at h (told ∙ w.if-opens_deal.false) in (omega (arith, w.deals-is), omega (arith, w.deals-is, k, end)))
@@ -102,7 +102,7 @@ loop-again c =
 returns : tie.Need-returns invariant-loop decreases-loop
 returns c =
     let lines = c.before.before.before.args.lines.now in
-    let none : toCome lines c.before.loop-at.at ≡ 0 = rw (no_lines_at lines c.before.loop-at.at c.loop-at-test.false, no_deals) in
+    let none : to_come lines c.before.loop-at.at ≡ 0 = rw (no_lines_at lines c.before.loop-at.at c.loop-at-test.false, no_deals) in
     omega (arith, none, c.before.loop-at.invariant.counted)
 
 pub count_deals_spec : {M : Type 1} → statement M

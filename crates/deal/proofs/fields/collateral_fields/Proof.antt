@@ -1,6 +1,5 @@
 -- `deal::fields::collateral_fields` meets its contract: each field in its place. Assumes nothing.
 use mathlib.Core.Path.{refl}
-use Rattle.deal.specs.Fields.{collateral_fields}
 use Rattle.deal.proofs.fields.collateral_fields.Statement.{statement}
 use Rattle.deal.proofs.fields.collateral_fields.Tie as tie
 

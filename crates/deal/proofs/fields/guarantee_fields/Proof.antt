@@ -1,6 +1,5 @@
 -- `deal::fields::guarantee_fields` meets its contract: each field in its place. Assumes nothing.
 use mathlib.Core.Path.{refl}
-use Rattle.deal.specs.Fields.{guarantee_fields}
 use Rattle.deal.proofs.fields.guarantee_fields.Statement.{statement}
 use Rattle.deal.proofs.fields.guarantee_fields.Tie as tie
 

@@ -1,6 +1,5 @@
 -- `deal::fields::terms_fields` meets its contract: each field in its place. Assumes nothing.
 use mathlib.Core.Path.{refl}
-use Rattle.deal.specs.Fields.{terms_fields}
 use Rattle.deal.proofs.fields.terms_fields.Statement.{statement}
 use Rattle.deal.proofs.fields.terms_fields.Tie as tie
 

@@ -1,5 +1,5 @@
 -- `hadlephoga::adding::add_collateral` meets its contract: 11 and 40 by the lengths, then what adding answers. Assumes nothing.
-use mathlib.Core.Path.{◌≡◌, sym, ◌∙◌}
+use mathlib.Core.Path.{sym, ◌∙◌}
 use borrow.Author.Tests.{ne_eqb}
 use Rattle.base.proofs.Tests.{tests}
 use Rattle.deal.specs.Answers.{answer_number}

@@ -1,5 +1,5 @@
 -- `hadlephoga::sets::net_numbers` meets its contract: 11, or the reply to the set. Assumes nothing.
-use mathlib.Core.Path.{◌≡◌, sym, ap₂, ◌∙◌}
+use mathlib.Core.Path.{sym, ap₂, ◌∙◌}
 use mathlib.Core.List.{map}
 use native.Mathlib.Omega.{arith}
 use Rattle.base.proofs.Tests.{tests}

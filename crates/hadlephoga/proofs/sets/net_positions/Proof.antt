@@ -1,5 +1,5 @@
 -- `hadlephoga::sets::net_positions` meets its contract. Assumes nothing.
-use mathlib.Core.Path.{◌≡◌, ap, ◌∙◌}
+use mathlib.Core.Path.{ap, ◌∙◌}
 use Rattle.base.proofs.Tests.{tests}
 use Rattle.netting.specs.Reply.{reply_to, set_reply}
 use Rattle.netting.proofs.Replies.{many_alike}

@@ -4,7 +4,7 @@ use native.Mathlib.Omega.{arith}
 use lib.ListN.{length}
 use Rattle.base.proofs.Arrays.{unmapped}
 use Rattle.base.proofs.Tests.{tests}
-use Rattle.deal.specs.Fields.{collateral_fields, collateral_width, terms_fields, terms_width}
+use Rattle.deal.specs.Fields.{collateral_fields, collateral_width, terms_width}
 use Rattle.deal.specs.Lists.{list_limit}
 use Rattle.hadlephoga.specs.Records.{deal_numbers, guarantee_count_at}
 use Rattle.hadlephoga.proofs.Numbers.{five_parts}

@@ -2,13 +2,13 @@
 use Prim.Native.Nat.{ℕ, ◌+◌, ◌-◌, ◌≤◌, ◌<◌}
 use mathlib.Core.Path.{◌≡◌, ap, ◌∙◌}
 use mathlib.Core.Logic.{⊎_elim}
-use mathlib.Core.Bool.{true, false, not}
+use mathlib.Core.Bool.{true, false}
 use native.Mathlib.Omega.{arith}
 use lib.ListN.{length, take, drop, get_or}
 use Rattle.base.proofs.Arrays.{unmapped}
 use Rattle.base.proofs.Tests.{tests, told_true, told_false}
 use Rattle.base.specs.Any.{any}
-use Rattle.netting.specs.AddOns.{add_on_of, figure_of, group_of, number_of}
+use Rattle.netting.specs.AddOns.{figure_of, number_of}
 use Rattle.netting.specs.Groups.{member}
 use Rattle.netting.specs.Once.{occurs, sum_once}
 use Rattle.netting.specs.declared.position.Position.{Position}

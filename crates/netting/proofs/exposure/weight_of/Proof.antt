@@ -1,6 +1,4 @@
 -- `netting::exposure::weight_of` meets its contract. Assumes nothing.
-use Prim.Native.Nat.{◌≤◌}
-use mathlib.Core.Path.{◌≡◌}
 use native.Mathlib.Omega.{arith}
 use Rattle.tables.proofs.EditionBounds.{counterparty_low}
 use Rattle.netting.specs.Reply.{set_weight}

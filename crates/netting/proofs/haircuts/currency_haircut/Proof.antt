@@ -1,5 +1,5 @@
 -- `netting::haircuts::currency_haircut` meets its contract. Assumes nothing.
-use mathlib.Core.Path.{◌≡◌, ap, ◌∙◌}
+use mathlib.Core.Path.{ap, ◌∙◌}
 use native.Mathlib.Omega.{arith}
 use Rattle.scaling.specs.Scaling.{scaled}
 use Rattle.netting.specs.Haircuts.{currency_haircut_over}

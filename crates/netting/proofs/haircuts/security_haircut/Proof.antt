@@ -1,5 +1,5 @@
 -- `netting::haircuts::security_haircut` meets its contract. Assumes nothing.
-use mathlib.Core.Path.{◌≡◌, ap₂, ◌∙◌}
+use mathlib.Core.Path.{ap₂, ◌∙◌}
 use native.Mathlib.Omega.{arith}
 use Rattle.tables.proofs.EditionBounds.{lent_low}
 use Rattle.scaling.specs.Scaling.{scaled}

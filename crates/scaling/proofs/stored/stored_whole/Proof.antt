@@ -2,7 +2,6 @@
 use mathlib.Core.Path.{refl, ◌∙◌}
 use Rattle.base.specs.Choice.{if◌then◌else◌}
 use Rattle.base.specs.Least.{between, least}
-use Rattle.base.proofs.Tests.{tests}
 use Rattle.scaling.specs.Scaling.{scaled}
 use Rattle.scaling.proofs.StoredFigures.{over_right}
 use Rattle.scaling.proofs.stored.stored_whole.Statement.{statement}
