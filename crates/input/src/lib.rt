@@ -1,8 +1,9 @@
-// What a reader, such as standard input, holds.
+// What a reader, such as standard input or a file, holds.
 
 #![tactic(auto)]
 
 ghost use Rattle.std.specs.Prelude.{◌≤◌, ◌≡◌, length};
+ghost use Rattle.io.specs.Counts.{IsPrefixLen};
 
 use std::io::Read;
 
@@ -13,11 +14,9 @@ pub struct Input {
     pub count: usize,
 }
 
-// Reads until the input ends, the buffer is full or a read fails; a read may bring any part. The buffer has one byte more than the
-// longest book, so that a longer one shows.
-pub fn read_input<R: Read>(reader: &mut R, buffer: &mut [u8]) -> Input
-    requires { length buffer.old ≡ 65537 }
-    ensures { result.count ≤ length buffer.new }
+// Reads until the input ends, the buffer is full or a read fails; a read may bring any part.
+pub fn read_full<R: Read>(reader: &mut R, buffer: &mut [u8]) -> Input
+    ensures { IsPrefixLen result.count buffer.new }
 {
     let mut count: usize = 0;
     while count < buffer.len() {
@@ -41,4 +40,12 @@ pub fn read_input<R: Read>(reader: &mut R, buffer: &mut [u8]) -> Input
         complete: true,
         count,
     }
+}
+
+// Reads a book. The buffer has one byte more than the longest book, so that a longer one shows.
+pub fn read_input<R: Read>(reader: &mut R, buffer: &mut [u8]) -> Input
+    requires { length buffer.old ≡ 65537 }
+    ensures { result.count ≤ length buffer.new }
+{
+    read_full(reader, buffer)
 }
