@@ -23,7 +23,7 @@ fn with_byte(numbers: &mut [u64; ROOM], place: usize, byte: u8) -> usize
     }
     // Numbers of 64 bits are read as they are.
     let ten_times = numbers[place] % 1_844_674_407_370_955_162 * 10;
-    numbers[place] = std::num::wrapping_add_u64(ten_times, wide(byte) % 16);
+    numbers[place] = ten_times.wrapping_add(wide(byte) % 16);
     place
 }
 
