@@ -113,9 +113,7 @@ fn run_lines(rt: &impl Print, lines: &[u8]) {
     let mut front = [0u8; BYTES];
     let mut held: usize = 0;
     let mut start: usize = 0;
-    let mut i: usize = 0;
-    while i < lines.len() {
-        let next = i + 1;
+    for i in 0..lines.len() {
         if lines[i] == b'\n' {
             held = run(
                 rt,
@@ -125,9 +123,8 @@ fn run_lines(rt: &impl Print, lines: &[u8]) {
                 &mut front,
                 held,
             );
-            start = next;
+            start = i + 1;
         }
-        i = next;
     }
 }
 
@@ -139,14 +136,11 @@ fn run_file(rt: &(impl Files + Print), name: &[u8]) {
 
 fn run_files(rt: &(impl Files + Print), names: &[u8]) {
     let mut start: usize = 0;
-    let mut i: usize = 0;
-    while i < names.len() {
-        let next = i + 1;
+    for i in 0..names.len() {
         if names[i] == b'\n' {
             run_file(rt, &names[start..i]);
-            start = next;
+            start = i + 1;
         }
-        i = next;
     }
 }
 

@@ -62,10 +62,8 @@ pub fn set(record: &mut [u64; PLACES], numbers: &[u64; ROOM], end: usize)
     requires { end ≤ 256 }
 {
     let place = least(numbers[1] as usize, PLACES);
-    let mut k: usize = 2;
-    while k < end {
+    for k in 2..end {
         record[least(place + k - 2, PLACES - 1)] = numbers[k];
-        k += 1;
     }
 }
 

@@ -68,10 +68,8 @@ fn row(rt: &impl Print, list: &[u64], start: usize, end: usize, times: u64)
     requires { end ≤ length list.now }
 {
     text(rt, b" |");
-    let mut i = start;
-    while i < end {
+    for i in start..end {
         number(rt, b"", list[i]);
-        i += 1;
     }
     if times > 1 {
         number(rt, b" times", times);
