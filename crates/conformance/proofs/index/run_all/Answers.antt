@@ -1,4 +1,4 @@
-use Rattle.std.proofs.Common.{ap, arith, length, drop, ◌+◌, ◌≤◌, ◌<◌, ◌≡◌, ℕ, List, rules}
+use Rattle.std.proofs.Common.{ap, arith, length, drop, ◌+◌, ◌≤◌, ◌<◌, ◌≡◌, ℕ, List}
 use Rattle.text.specs.Text.{first_line, lines_of}
 use Rattle.text.proofs.Lines.{lines_at, first_at_some, first_at_inside, no_lines_at}
 use Rattle.conformance.proofs.index.run_all.Goals as goal
