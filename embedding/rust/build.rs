@@ -12,7 +12,7 @@ fn main() {
     println!("cargo:rerun-if-changed={}", archive.display());
     if !archive.is_file() {
         eprintln!("{} is not there.", archive.display());
-        eprintln!("From the top of the project, run: rt staticlib hadlephoga");
+        eprintln!("From the top of the project, run: tools/build");
         eprintln!("or set HADLEPHOGA_LIB_DIR to the folder that holds libhadlephoga.a.");
         exit(1);
     }

@@ -23,7 +23,7 @@ fn with_byte(numbers: &mut [u64; ROOM], place: usize, byte: u8) -> usize
     }
     // Numbers of 64 bits are read as they are.
     let ten_times = numbers[place] % 1_844_674_407_370_955_162 * 10;
-    numbers[place] = std::num::wrapping_add_u64(ten_times, wide(byte) % 16);
+    numbers[place] = ten_times.wrapping_add(wide(byte) % 16);
     place
 }
 
@@ -32,10 +32,8 @@ pub fn numbers(line: &[u8], numbers: &mut [u64; ROOM]) -> usize
     ensures { result ≤ 256 }
 {
     let mut last: usize = 0;
-    let mut i: usize = 0;
-    while i < line.len() {
-        last = with_byte(numbers, last, line[i]);
-        i += 1;
+    for byte in line {
+        last = with_byte(numbers, last, *byte);
     }
     last + 1
 }
@@ -104,11 +102,9 @@ fn keep(front: &mut [u8; BYTES], at: usize, reading: Reading) -> usize {
 pub fn put(front: &mut [u8; BYTES], start: usize, line: &[u8]) -> usize {
     let mut reading = Reading::Word;
     let mut at = start;
-    let mut i: usize = 0;
-    while i < line.len() {
-        reading = next(reading, line[i]);
+    for byte in line {
+        reading = next(reading, *byte);
         at = keep(front, at, reading);
-        i += 1;
     }
     at
 }
@@ -116,10 +112,8 @@ pub fn put(front: &mut [u8; BYTES], start: usize, line: &[u8]) -> usize {
 // The same so many times.
 pub fn repeat(front: &mut [u8; BYTES], start: usize, times: u64, line: &[u8]) -> usize {
     let mut at = start;
-    let mut left = times;
-    while left > 0 {
+    for _ in 0..times {
         at = put(front, at, line);
-        left -= 1;
     }
     at
 }

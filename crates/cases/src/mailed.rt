@@ -23,38 +23,38 @@ fn widen(bytes: &[u8], numbers: &mut [u64; BYTES]) {
 }
 
 // The first so many of them; the operation says that so many are written.
-fn show_first(numbers: &[u64; BYTES], count: usize, written: u64) {
+fn show_first(rt: &impl Print, numbers: &[u64; BYTES], count: usize, written: u64) {
     let all = &numbers[..];
     let end = least(count, all.len());
     let front: usize = 0;
-    show::written(&all[front..end], written);
+    show::written(rt, &all[front..end], written);
 }
 
 // The second buffer, every byte.
-fn show_buffer(buffer: &[u8], bytes: u64) {
+fn show_buffer(rt: &impl Print, buffer: &[u8], bytes: u64) {
     let mut numbers = [0u64; BYTES];
     widen(buffer, &mut numbers);
-    show::text(b" buffer");
-    show_first(&numbers, buffer.len(), bytes);
+    show::text(rt, b" buffer");
+    show_first(rt, &numbers, buffer.len(), bytes);
 }
 
-fn repaired(book: &[u8], buffer: &mut [u8], list: &mut [u64]) {
+fn repaired(rt: &impl Print, book: &[u8], buffer: &mut [u8], list: &mut [u64]) {
     let mut bytes = show::MARK;
     let mut lines = show::MARK;
     let refusal = hadlephoga::hadlephoga_repair_book(book, buffer, list, &mut bytes, &mut lines);
-    number(b"=", refusal);
-    number(b"", bytes);
-    number(b"", lines);
-    number(b" of", book.len() as u64);
-    show::text(b" bytes");
-    show_buffer(buffer, bytes);
-    show::text(b" lines");
-    show::written(list, lines);
-    show::text(b"\n");
+    number(rt, b"=", refusal);
+    number(rt, b"", bytes);
+    number(rt, b"", lines);
+    number(rt, b" of", book.len() as u64);
+    show::text(rt, b" bytes");
+    show_buffer(rt, buffer, bytes);
+    show::text(rt, b" lines");
+    show::written(rt, list, lines);
+    show::text(rt, b"\n");
 }
 
 // So many bytes as a book, repaired into a buffer of so many bytes and a list of so many places.
-pub fn repair(bytes: &[u8], count: usize, room: u64, places: u64) {
+pub fn repair(rt: &impl Print, bytes: &[u8], count: usize, room: u64, places: u64) {
     let mut buffer = [BYTE_MARK; BYTES];
     let mut list = [show::MARK; LINES];
     let length = least(count, bytes.len());
@@ -62,6 +62,7 @@ pub fn repair(bytes: &[u8], count: usize, room: u64, places: u64) {
     let lent = least(places as usize, LINES);
     let front: usize = 0;
     repaired(
+        rt,
         &bytes[front..length],
         &mut buffer[front..second],
         &mut list[front..lent],
@@ -77,17 +78,17 @@ fn notice_sum(notice: &[u8; NOTICE], count: usize) -> u64 {
 }
 
 // What the program crmrepair writes for so many bytes: the book, and the notice of its altered lines or of the refusal.
-pub fn notice(bytes: &[u8], count: usize) {
+pub fn notice(rt: &impl Print, bytes: &[u8], count: usize) {
     let mut buffer = [0u8; BOOK];
     let mut list = [0u64; BOOK];
     let mut notice = [0u8; NOTICE];
     let length = least(count, bytes.len());
     let front: usize = 0;
     let lengths = repairing::respond(&bytes[front..length], &mut buffer, &mut list, &mut notice);
-    number(b"= written", lengths.book as u64);
-    number(b" sum", book_sum(&buffer, lengths.book));
-    number(b" notice", lengths.notice as u64);
-    number(b" sum", notice_sum(&notice, lengths.notice));
-    number(b" of", length as u64);
-    show::text(b" bytes\n");
+    number(rt, b"= written", lengths.book as u64);
+    number(rt, b" sum", book_sum(&buffer, lengths.book));
+    number(rt, b" notice", lengths.notice as u64);
+    number(rt, b" sum", notice_sum(&notice, lengths.notice));
+    number(rt, b" of", length as u64);
+    show::text(rt, b" bytes\n");
 }

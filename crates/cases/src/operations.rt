@@ -25,7 +25,14 @@ fn changed(letter: u8, list: &mut [u64], numbers: &[u64]) -> u64 {
 }
 
 // Lends so many places, with the numbers behind the word, and shows all places.
-pub fn change(letter: u8, record: &mut [u64], places: u64, numbers: &[u64; ROOM], end: usize)
+pub fn change(
+    rt: &impl Print,
+    letter: u8,
+    record: &mut [u64],
+    places: u64,
+    numbers: &[u64; ROOM],
+    end: usize,
+)
     requires { end ≤ 256 }
 {
     let lent = least(places as usize, record.len());
@@ -33,21 +40,21 @@ pub fn change(letter: u8, record: &mut [u64], places: u64, numbers: &[u64; ROOM]
     let front: usize = 0;
     let first = least(1, end);
     let refusal = changed(letter, &mut record[front..lent], &all[first..end]);
-    show::record(refusal, record);
+    show::record(rt, refusal, record);
 }
 
-fn reported(numbers: &[u64], list: &mut [u64]) {
+fn reported(rt: &impl Print, numbers: &[u64], list: &mut [u64]) {
     let refusal = hadlephoga::hadlephoga_report_deal(numbers, list);
-    show::report(refusal, list);
+    show::report(rt, refusal, list);
 }
 
 // So many places of the record, reported into so many places.
-pub fn report(record: &[u64], places: u64, room: u64) {
+pub fn report(rt: &impl Print, record: &[u64], places: u64, room: u64) {
     let mut list = [show::MARK; show::REPORT_PLACES];
     let lent = least(places as usize, record.len());
     let into = least(room as usize, show::REPORT_PLACES);
     let front: usize = 0;
-    reported(&record[front..lent], &mut list[front..into]);
+    reported(rt, &record[front..lent], &mut list[front..into]);
 }
 
 // Writes numbers from a place on.
@@ -55,30 +62,28 @@ pub fn set(record: &mut [u64; PLACES], numbers: &[u64; ROOM], end: usize)
     requires { end ≤ 256 }
 {
     let place = least(numbers[1] as usize, PLACES);
-    let mut k: usize = 2;
-    while k < end {
+    for k in 2..end {
         record[least(place + k - 2, PLACES - 1)] = numbers[k];
-        k += 1;
     }
 }
 
-fn answered(book: &[u8], list: &mut [u64]) {
+fn answered(rt: &impl Print, book: &[u8], list: &mut [u64]) {
     let mut deals = show::MARK;
     let refusal = hadlephoga::hadlephoga_answer_book(book, list, &mut deals);
-    number(b"=", refusal);
-    number(b"", deals);
-    number(b" of", book.len() as u64);
-    show::text(b" bytes");
-    show::results(list);
+    number(rt, b"=", refusal);
+    number(rt, b"", deals);
+    number(rt, b" of", book.len() as u64);
+    show::text(rt, b" bytes");
+    show::results(rt, list);
 }
 
 // So many bytes as a book, answered into so many places.
-pub fn answer(bytes: &[u8], count: usize, places: u64) {
+pub fn answer(rt: &impl Print, bytes: &[u8], count: usize, places: u64) {
     let mut list = [show::MARK; RESULTS];
     let length = least(count, bytes.len());
     let room = least(places as usize, RESULTS);
     let front: usize = 0;
-    answered(&bytes[front..length], &mut list[front..room]);
+    answered(rt, &bytes[front..length], &mut list[front..room]);
 }
 
 // A number that depends on each of so many bytes and on their order.
@@ -95,14 +100,14 @@ fn text_sum(text: &[u8; TEXT], count: usize) -> u64 {
 }
 
 // What the program crmbook prints for so many bytes.
-pub fn print(bytes: &[u8], count: usize) {
+pub fn print(rt: &impl Print, bytes: &[u8], count: usize) {
     let mut results = [show::MARK; 8192];
     let mut out = [0u8; TEXT];
     let length = least(count, bytes.len());
     let front: usize = 0;
     let printed = response::respond(&bytes[front..length], &mut results, &mut out);
-    number(b"= printed", printed as u64);
-    number(b" sum", text_sum(&out, printed));
-    number(b" of", length as u64);
-    show::text(b" bytes\n");
+    number(rt, b"= printed", printed as u64);
+    number(rt, b" sum", text_sum(&out, printed));
+    number(rt, b" of", length as u64);
+    show::text(rt, b" bytes\n");
 }

@@ -26,15 +26,16 @@ const REST: usize = FIRST_COVER + Deal::GUARANTEE_LIMIT * COVER_WIDTH;
 // With places behind the report, which reporting does not write.
 pub const REPORT_PLACES: usize = REST + 6;
 
-pub fn text(bytes: &[u8]) {
-    io::write_all(libc::STDOUT_FILENO, bytes);
+// What cannot be written is left out.
+pub fn text(rt: &impl Print, bytes: &[u8]) {
+    let _ = rt.write_all(bytes);
 }
 
 // A number, behind these bytes and a space.
-pub fn number(label: &[u8], value: u64) {
-    text(label);
-    text(b" ");
-    io::print_decimal(libc::STDOUT_FILENO, value);
+pub fn number(rt: &impl Print, label: &[u8], value: u64) {
+    text(rt, label);
+    text(rt, b" ");
+    let _ = rt.print(value);
 }
 
 pub fn least(a: usize, b: usize) -> usize
@@ -63,22 +64,20 @@ fn repeats(list: &[u64], start: usize, end: usize, stop: usize) -> bool
 }
 
 // A row that stands so many times.
-fn row(list: &[u64], start: usize, end: usize, times: u64)
+fn row(rt: &impl Print, list: &[u64], start: usize, end: usize, times: u64)
     requires { end ≤ length list.now }
 {
-    text(b" |");
-    let mut i = start;
-    while i < end {
-        number(b"", list[i]);
-        i += 1;
+    text(rt, b" |");
+    for i in start..end {
+        number(rt, b"", list[i]);
     }
     if times > 1 {
-        number(b" times", times);
+        number(rt, b" times", times);
     }
 }
 
 // Rows of so many numbers from one place up to another, as far as the list goes; rows that are the same are shown once.
-fn rows(list: &[u64], start: usize, end: usize, width: usize)
+fn rows(rt: &impl Print, list: &[u64], start: usize, end: usize, width: usize)
     requires { 1 ≤ width }
 {
     let stop = least(end, list.len());
@@ -87,9 +86,9 @@ fn rows(list: &[u64], start: usize, end: usize, width: usize)
     while at < stop {
         let next = at + 1 + least(width - 1, stop - at - 1);
         if repeats(list, at, next, stop) {
-            times = std::num::wrapping_add_u64(times, 1);
+            times = times.wrapping_add(1);
         } else {
-            row(list, at, next, times);
+            row(rt, list, at, next, times);
             times = 1;
         }
         at = next;
@@ -97,27 +96,39 @@ fn rows(list: &[u64], start: usize, end: usize, width: usize)
 }
 
 // A refusal, and the record: terms, either list behind its count, and what stands behind the record.
-pub fn record(refusal: u64, list: &[u64]) {
-    number(b"=", refusal);
-    rows(list, 0, TERMS_WIDTH, TERMS_WIDTH);
-    rows(list, TERMS_WIDTH, FIRST_COLLATERAL, 1);
-    rows(list, FIRST_COLLATERAL, GUARANTEE_COUNT, COLLATERAL_WIDTH);
-    rows(list, GUARANTEE_COUNT, GUARANTEE_COUNT + 1, 1);
-    rows(list, GUARANTEE_COUNT + 1, RECORD_LENGTH, GUARANTEE_WIDTH);
-    rows(list, RECORD_LENGTH, list.len(), 1);
-    text(b"\n");
+pub fn record(rt: &impl Print, refusal: u64, list: &[u64]) {
+    number(rt, b"=", refusal);
+    rows(rt, list, 0, TERMS_WIDTH, TERMS_WIDTH);
+    rows(rt, list, TERMS_WIDTH, FIRST_COLLATERAL, 1);
+    rows(
+        rt,
+        list,
+        FIRST_COLLATERAL,
+        GUARANTEE_COUNT,
+        COLLATERAL_WIDTH,
+    );
+    rows(rt, list, GUARANTEE_COUNT, GUARANTEE_COUNT + 1, 1);
+    rows(
+        rt,
+        list,
+        GUARANTEE_COUNT + 1,
+        RECORD_LENGTH,
+        GUARANTEE_WIDTH,
+    );
+    rows(rt, list, RECORD_LENGTH, list.len(), 1);
+    text(rt, b"\n");
 }
 
 // A refusal, and the report: E*, collateral, guarantees, the rest, the weighted amount, and what stands behind them.
-pub fn report(refusal: u64, list: &[u64]) {
-    number(b"=", refusal);
-    rows(list, 0, 1, 1);
-    rows(list, 1, FIRST_COVER, OUTCOME_WIDTH);
-    rows(list, FIRST_COVER, REST, COVER_WIDTH);
-    rows(list, REST, REST + 1, 1);
-    rows(list, REST + 1, REST + 2, 1);
-    rows(list, REST + 2, list.len(), 1);
-    text(b"\n");
+pub fn report(rt: &impl Print, refusal: u64, list: &[u64]) {
+    number(rt, b"=", refusal);
+    rows(rt, list, 0, 1, 1);
+    rows(rt, list, 1, FIRST_COVER, OUTCOME_WIDTH);
+    rows(rt, list, FIRST_COVER, REST, COVER_WIDTH);
+    rows(rt, list, REST, REST + 1, 1);
+    rows(rt, list, REST + 1, REST + 2, 1);
+    rows(rt, list, REST + 2, list.len(), 1);
+    text(rt, b"\n");
 }
 
 // A number that depends on every place and on their order.
@@ -130,36 +141,36 @@ fn sum(list: &[u64]) -> u64 {
 }
 
 // The ends of a long list, and what tells it from any other.
-fn ends(list: &[u64], width: usize)
+fn ends(rt: &impl Print, list: &[u64], width: usize)
     requires { (8 ≤ length list.now) × (1 ≤ width) }
 {
     let places = list.len();
-    rows(list, 0, 8, width);
-    text(b" ..");
-    rows(list, places - 8, places, width);
-    number(b" | places", places as u64);
-    number(b" sum", sum(list));
+    rows(rt, list, 0, 8, width);
+    text(rt, b" ..");
+    rows(rt, list, places - 8, places, width);
+    number(rt, b" | places", places as u64);
+    number(rt, b" sum", sum(list));
 }
 
 // A results list, four numbers to a deal; of a long one the ends.
-pub fn results(list: &[u64]) {
+pub fn results(rt: &impl Print, list: &[u64]) {
     let places = list.len();
     if places <= 40 {
-        rows(list, 0, places, 4);
+        rows(rt, list, 0, places, 4);
     } else {
-        ends(list, 4);
+        ends(rt, list, 4);
     }
-    text(b"\n");
+    text(rt, b"\n");
 }
 
 // A list of which so many places are written: these, and what stands behind them; of a long one the ends.
-pub fn written(list: &[u64], count: u64) {
+pub fn written(rt: &impl Print, list: &[u64], count: u64) {
     let places = list.len();
     if places <= 40 {
         let end = least(count as usize, places);
-        rows(list, 0, end, 8);
-        rows(list, end, places, 1);
+        rows(rt, list, 0, end, 8);
+        rows(rt, list, end, places, 1);
     } else {
-        ends(list, 8);
+        ends(rt, list, 8);
     }
 }

@@ -2,6 +2,10 @@
 ghost use Rattle.std.specs.Prelude.{◌+◌, ◌≤◌, ◌≡◌, length};
 ghost use Rattle.io.specs.Counts.{IsPrefixLen};
 
+use input::read_full;
+use std::fs::File;
+use std::rt::Files;
+
 const LONGEST_NAME: usize = 80;
 
 const LONGEST_ENDING: usize = 16;
@@ -25,32 +29,31 @@ fn put(path: &mut [u8], at: usize, bytes: &[u8]) -> usize
     at + i
 }
 
-// Opens the file and answers a descriptor, or -1.
-fn open(name: &[u8], ending: &[u8]) -> i32 {
+// Opens the file, if it is there and its name is text.
+fn open<R: Files>(rt: &R, name: &[u8], ending: &[u8]) -> Option<R::File> {
     if name.len() > LONGEST_NAME {
-        return -1;
+        return None;
     }
     if ending.len() > LONGEST_ENDING {
-        return -1;
+        return None;
     }
     let mut path = [0u8; LONGEST_NAME + LONGEST_ENDING];
     let middle = put(&mut path, 0, name);
     let end = put(&mut path, middle, ending);
-    os::open_read(&path[..end])
+    let path = str::from_utf8(&path[..end]).ok()?;
+    File::open(rt, path).ok()
 }
 
 // Reads the file from its start, as far as there is room.
-pub fn read_file(name: &[u8], ending: &[u8], buffer: &mut [u8]) -> Content
+pub fn read_file<R: Files>(rt: &R, name: &[u8], ending: &[u8], buffer: &mut [u8]) -> Content
     ensures { IsPrefixLen result.count buffer.new }
 {
-    let descriptor = open(name, ending);
-    if descriptor < 0 {
+    let Some(mut file) = open(rt, name, ending) else {
         return Content {
             found: false,
             count: 0,
         };
-    }
-    let count = io::read_full(descriptor, buffer);
-    libc::close(descriptor);
+    };
+    let count = read_full(&mut file, buffer).count;
     Content { found: true, count }
 }

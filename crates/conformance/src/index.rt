@@ -3,6 +3,7 @@ ghost use Rattle.std.specs.Prelude.{◌≤◌, ◌≡◌, length};
 ghost use Rattle.text.specs.Text.{lines_of};
 
 use crate::run::run;
+use std::rt::Files;
 use text::line_end;
 
 #[derive(Clone, Copy)]
@@ -13,7 +14,7 @@ pub struct Tally {
 }
 
 // Each name ends in a line feed.
-pub fn run_all(names: &[u8]) -> Tally
+pub fn run_all(rt: &(impl Files + Print), names: &[u8]) -> Tally
     ensures { (result.books ≡ length (lines_of names.now)) × (result.differ ≤ result.books) }
 {
     let mut books: u64 = 0;
@@ -21,7 +22,7 @@ pub fn run_all(names: &[u8]) -> Tally
     let mut at: usize = 0;
     while at < names.len() {
         let end = line_end(names, at);
-        if !run(&names[at..end - 1]) {
+        if !run(rt, &names[at..end - 1]) {
             differ += 1;
         }
         books += 1;

@@ -9,21 +9,20 @@ mod show;
 
 use file::read_file;
 use index::run_all;
-use libc::STDERR_FILENO;
 use show::{number, text};
 
-fn main() {
+fn main(rt: HostRuntime) {
     // Room for 809 of the longest names.
-    let mut names = io::large_buffer();
-    let index = read_file(b"index", b"", &mut names);
+    let mut names = [0u8; 65536];
+    let index = read_file(&rt, b"index", b"", &mut names);
     if !index.found {
-        io::write_all(STDERR_FILENO, b"conformance: there is no index\n");
+        let _ = eprintln!(rt; "conformance: there is no index");
         return;
     }
     let count = index.count;
-    let tally = run_all(&names[..count]);
-    number(tally.books);
-    text(b" books, ");
-    number(tally.differ);
-    text(b" differ\n");
+    let tally = run_all(&rt, &names[..count]);
+    number(&rt, tally.books);
+    text(&rt, b" books, ");
+    number(&rt, tally.differ);
+    text(&rt, b" differ\n");
 }

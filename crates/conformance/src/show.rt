@@ -1,10 +1,8 @@
-// Printing.
-use libc::STDOUT_FILENO;
-
-pub fn text(bytes: &[u8]) {
-    io::write_all(STDOUT_FILENO, bytes);
+// Printing. What cannot be written is left out.
+pub fn text(rt: &impl Print, bytes: &[u8]) {
+    let _ = rt.write_all(bytes);
 }
 
-pub fn number(value: u64) {
-    io::print_decimal(STDOUT_FILENO, value);
+pub fn number(rt: &impl Print, value: u64) {
+    let _ = rt.print(value);
 }

@@ -3,14 +3,13 @@
 #![tactic(auto)]
 
 use input::read_input;
-use libc::{STDERR_FILENO, STDOUT_FILENO};
 use response::respond;
 
-fn main() {
+fn main(rt: HostRuntime) {
     let mut buffer = [0u8; 65537];
-    let input = read_input(&mut buffer);
+    let input = read_input(&mut rt.stdin(), &mut buffer);
     if !input.complete {
-        io::write_all(STDERR_FILENO, b"crmbook: standard input cannot be read\n");
+        let _ = eprintln!(rt; "crmbook: standard input cannot be read");
         return;
     }
     let count = input.count;
@@ -18,7 +17,7 @@ fn main() {
     let mut results = [0u64; 8192];
     let mut text = [0u8; 172061];
     let length = respond(&buffer[..count], &mut results, &mut text);
-    if !io::write_all(STDOUT_FILENO, &text[..length]) {
-        io::write_all(STDERR_FILENO, b"crmbook: the result cannot be written\n");
+    if rt.write_all(&text[..length]).is_err() {
+        let _ = eprintln!(rt; "crmbook: the result cannot be written");
     }
 }

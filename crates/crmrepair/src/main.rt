@@ -4,14 +4,13 @@
 #![tactic(auto)]
 
 use input::read_input;
-use libc::{STDERR_FILENO, STDOUT_FILENO};
 use repairing::respond;
 
-fn main() {
+fn main(rt: HostRuntime) {
     let mut bytes = [0u8; 65537];
-    let input = read_input(&mut bytes);
+    let input = read_input(&mut rt.stdin(), &mut bytes);
     if !input.complete {
-        io::write_all(STDERR_FILENO, b"crmrepair: standard input cannot be read\n");
+        let _ = eprintln!(rt; "crmrepair: standard input cannot be read");
         return;
     }
     let count = input.count;
@@ -22,9 +21,9 @@ fn main() {
     let lengths = respond(&bytes[..count], &mut buffer, &mut list, &mut notice);
     let book = lengths.book;
     let said = lengths.notice;
-    if !io::write_all(STDOUT_FILENO, &buffer[..book]) {
-        io::write_all(STDERR_FILENO, b"crmrepair: the book cannot be written\n");
+    if rt.write_all(&buffer[..book]).is_err() {
+        let _ = eprintln!(rt; "crmrepair: the book cannot be written");
         return;
     }
-    io::write_all(STDERR_FILENO, &notice[..said]);
+    let _ = rt.stderr().write_all(&notice[..said]);
 }

@@ -36,16 +36,14 @@ const LIST_TOO_SHORT: u64 = 13;
 const LAYOUT: u64 = 4;
 
 // The number of the layout of all lists of numbers below. A caller built for another one must not go on.
-#[unsafe(no_mangle)]
-pub extern "C" fn hadlephoga_layout() -> u64
+pub fn hadlephoga_layout() -> u64
     ensures { result ≡ layout }
 {
     LAYOUT
 }
 
 // Answering a book: the refusal of the whole book or 0, the count of deals beside it, and four numbers a deal in the list.
-#[unsafe(no_mangle)]
-pub extern "C" fn hadlephoga_answer_book(book: &[u8], results: &mut [u64], deals: &mut u64) -> u64
+pub fn hadlephoga_answer_book(book: &[u8], results: &mut [u64], deals: &mut u64) -> u64
     ensures value { result ≡ (book_reply book.now (length results.old)).refusal }
     ensures deals_after { deals.new ≡ (book_reply book.now (length results.old)).deals }
     ensures results_after { results.new ≡ results_after book.now results.old }
@@ -57,8 +55,7 @@ pub extern "C" fn hadlephoga_answer_book(book: &[u8], results: &mut [u64], deals
 
 // Repairing a book that came by mail: the refusal or 0, both lengths beside it, the book's bytes in the buffer, and the numbers of its
 // altered lines in the list.
-#[unsafe(no_mangle)]
-pub extern "C" fn hadlephoga_repair_book(
+pub fn hadlephoga_repair_book(
     book: &[u8],
     repaired: &mut [u8],
     altered: &mut [u64],
@@ -78,8 +75,7 @@ pub extern "C" fn hadlephoga_repair_book(
 }
 
 // The reply to a netting set, six numbers and seven for each position: 11, the refusal or 0, with E* and the weighted amount beside it.
-#[unsafe(no_mangle)]
-pub extern "C" fn hadlephoga_net_set(set: &[u64], exposure: &mut u64, rwa: &mut u64) -> u64
+pub fn hadlephoga_net_set(set: &[u64], exposure: &mut u64, rwa: &mut u64) -> u64
     ensures value { result ≡ (netting_reply set.now).refusal }
     ensures exposure_after { exposure.new ≡ (netting_reply set.now).exposure }
     ensures rwa_after { rwa.new ≡ (netting_reply set.now).rwa }
@@ -91,8 +87,7 @@ pub extern "C" fn hadlephoga_net_set(set: &[u64], exposure: &mut u64, rwa: &mut 
 }
 
 // Opening a deal: 13 where the list is too short for a record, otherwise 11, the refusal or 0, and the record's numbers in the list.
-#[unsafe(no_mangle)]
-pub extern "C" fn hadlephoga_open_deal(terms: &[u64], record: &mut [u64]) -> u64
+pub fn hadlephoga_open_deal(terms: &[u64], record: &mut [u64]) -> u64
     ensures value { result ≡ opening_refusal_of terms.now (length «record».old) }
     ensures record_after { «record».new ≡ list_opened terms.now «record».old }
 {
@@ -100,8 +95,7 @@ pub extern "C" fn hadlephoga_open_deal(terms: &[u64], record: &mut [u64]) -> u64
 }
 
 // Adding an item of collateral: 11, the refusal or 0; the record is changed only with 0.
-#[unsafe(no_mangle)]
-pub extern "C" fn hadlephoga_add_collateral(record: &mut [u64], item: &[u64]) -> u64
+pub fn hadlephoga_add_collateral(record: &mut [u64], item: &[u64]) -> u64
     ensures value { result ≡ adding_collateral_refusal «record».old item.now }
     ensures record_after { «record».new ≡ numbers_with_collateral «record».old item.now }
 {
@@ -109,8 +103,7 @@ pub extern "C" fn hadlephoga_add_collateral(record: &mut [u64], item: &[u64]) ->
 }
 
 // Adding a guarantee, likewise.
-#[unsafe(no_mangle)]
-pub extern "C" fn hadlephoga_add_guarantee(record: &mut [u64], item: &[u64]) -> u64
+pub fn hadlephoga_add_guarantee(record: &mut [u64], item: &[u64]) -> u64
     ensures value { result ≡ adding_guarantee_refusal «record».old item.now }
     ensures record_after { «record».new ≡ numbers_with_guarantee «record».old item.now }
 {
@@ -118,8 +111,7 @@ pub extern "C" fn hadlephoga_add_guarantee(record: &mut [u64], item: &[u64]) -> 
 }
 
 // Adding a swap, likewise: the numbers of a guarantee, and whether restructuring is a credit event.
-#[unsafe(no_mangle)]
-pub extern "C" fn hadlephoga_add_swap(record: &mut [u64], item: &[u64]) -> u64
+pub fn hadlephoga_add_swap(record: &mut [u64], item: &[u64]) -> u64
     ensures value { result ≡ adding_swap_refusal «record».old item.now }
     ensures record_after { «record».new ≡ numbers_with_swap «record».old item.now }
 {
@@ -127,8 +119,7 @@ pub extern "C" fn hadlephoga_add_swap(record: &mut [u64], item: &[u64]) -> u64
 }
 
 // Reporting a deal: 13 where the list is too short for a report, otherwise the refusal or 0, and the report's numbers in the list.
-#[unsafe(no_mangle)]
-pub extern "C" fn hadlephoga_report_deal(numbers: &[u64], report: &mut [u64]) -> u64
+pub fn hadlephoga_report_deal(numbers: &[u64], report: &mut [u64]) -> u64
     ensures value { result ≡ reporting_refusal numbers.now (length report.old) }
     ensures report_after { report.new ≡ list_after numbers.now report.old }
 {

@@ -1,10 +1,11 @@
-// What standard input holds.
+// What a reader, such as standard input or a file, holds.
 
 #![tactic(auto)]
 
 ghost use Rattle.std.specs.Prelude.{◌≤◌, ◌≡◌, length};
+ghost use Rattle.io.specs.Counts.{IsPrefixLen};
 
-use libc::STDIN_FILENO;
+use std::io::Read;
 
 #[derive(Clone, Copy)]
 pub struct Input {
@@ -13,32 +14,38 @@ pub struct Input {
     pub count: usize,
 }
 
-// Reads until the input ends, the buffer is full or a read fails; a read may bring any part. The buffer has one byte more than the
-// longest book, so that a longer one shows.
-pub fn read_input(buffer: &mut [u8]) -> Input
-    requires { length buffer.old ≡ 65537 }
-    ensures { result.count ≤ length buffer.new }
+// Reads until the input ends, the buffer is full or a read fails; a read may bring any part.
+pub fn read_full<R: Read>(reader: &mut R, buffer: &mut [u8]) -> Input
+    ensures { IsPrefixLen result.count buffer.new }
 {
     let mut count: usize = 0;
     while count < buffer.len() {
-        let got = libc::read(STDIN_FILENO, &mut buffer[count..]);
-        if got < 0 {
-            return Input {
-                complete: false,
-                count,
-            };
+        match reader.read(&mut buffer[count..]) {
+            Err(_) => {
+                return Input {
+                    complete: false,
+                    count,
+                };
+            }
+            Ok(0) => {
+                return Input {
+                    complete: true,
+                    count,
+                };
+            }
+            Ok(more) => count += more,
         }
-        let more = io::count(got, &buffer[count..]);
-        if more == 0 {
-            return Input {
-                complete: true,
-                count,
-            };
-        }
-        count += more;
     }
     Input {
         complete: true,
         count,
     }
+}
+
+// Reads a book. The buffer has one byte more than the longest book, so that a longer one shows.
+pub fn read_input<R: Read>(reader: &mut R, buffer: &mut [u8]) -> Input
+    requires { length buffer.old ≡ 65537 }
+    ensures { result.count ≤ length buffer.new }
+{
+    read_full(reader, buffer)
 }
