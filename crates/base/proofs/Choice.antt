@@ -1,33 +1,28 @@
 -- The laws of choice by a test. Assumes nothing.
+use Rattle.std.proofs.Common.{if◌then◌else◌}
 use Prim.Native.Nat.{ℕ}
 use mathlib.Core.Path.{◌≡◌, refl}
 use mathlib.Core.Bool.{Bool, true, false}
 use native.Mathlib.Omega.{arith}
-use Rattle.base.specs.Choice.{if◌then◌else◌}
 
 pub if_true : {A : Type 0} (t : Bool) (a b : A) → t ≡ true → (if t then a else b) ≡ a
-unfolding if◌then◌else◌
 if_true t a b e = rw e
 
 pub if_false : {A : Type 0} (t : Bool) (a b : A) → t ≡ false → (if t then a else b) ≡ b
-unfolding if◌then◌else◌
 if_false t a b e = rw e
 
 -- a choice of what is put into a function
 pub through : {A B : Type 0} (f : A → B) (t : Bool) (a b : A) → (if t then f a else f b) ≡ f (if t then a else b)
-unfolding if◌then◌else◌
 through f true a b = refl
 through f false a b = refl
 
 -- what holds of a where the test passes, and of b where it fails, holds of the choice
 pub either : {A : Type 0} (P : A → Type 0) (t : Bool) {a b : A} → (t ≡ true → P a) → (t ≡ false → P b) → P (if t then a else b)
-unfolding if◌then◌else◌
 either P true p q = p refl
 either P false p q = q refl
 
 -- the same of two choices by one test
 pub either₂ : {A : Type 0} (R : A → A → Type 0) (t : Bool) {a b c d : A} → (t ≡ true → R a c) → (t ≡ false → R b d) → R (if t then a else b) (if t then c else d)
-unfolding if◌then◌else◌
 either₂ R true p q = p refl
 either₂ R false p q = q refl
 

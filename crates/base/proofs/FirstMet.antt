@@ -5,7 +5,6 @@ use mathlib.Core.Bool.{Bool, true, false, not, ◌&&◌}
 use mathlib.Core.List.{List, [], ◌∷◌, ◌++◌}
 use lib.Dec.{eqb}
 use borrow.Author.Tests.{eqb-true, eq-eqb}
-use Rattle.base.specs.Choice.{if◌then◌else◌}
 use Rattle.base.specs.FirstMet.{Test, ◌when◌, first_or, first_met, NoneMet, Here, FirstIs, Exact}
 use Rattle.base.proofs.Choice.{never, either, if_true, if_false}
 use Rattle.base.proofs.Every.{both}
@@ -69,7 +68,7 @@ not_met n met ts e = first_later 0 n met ts e
 
 -- exactly then is the number given: the one way
 pub first_is : (k : ℕ) (ts : List (Test ℕ)) → FirstIs k ts → first_met ts ≡ k
-unfolding first_or if◌then◌else◌
+unfolding first_or
 first_is k [] h = absurd h
 first_is k ((n when met) ∷ ts) h = go (eqb k n) refl h (first_is k ts)
   where
@@ -78,14 +77,14 @@ first_is k ((n when met) ∷ ts) h = go (eqb k n) refl h (first_is k ts)
     go false e h later = rw h.0 (later h.1)
 
 missing : (k : ℕ) (ts : List (Test ℕ)) → eqb k 0 ≡ false → absent k ts ≡ true → first_met ts ≡ k → ⊥
-unfolding first_or if◌then◌else◌
+unfolding first_or
 missing k [] z a e = never (eq-eqb k 0 (sym e)) z
 missing k ((n when true) ∷ ts) z a e = never (eq-eqb k n (sym e)) (unequal (eqb k n) (both (not (eqb k n)) _ a).0)
 missing k ((n when false) ∷ ts) z a e = missing k ts z (both (not (eqb k n)) _ a).1 e
 
 -- and the other
 pub first_exactly : (k : ℕ) (ts : List (Test ℕ)) → eqb k 0 ≡ false → distinct ts ≡ true → first_met ts ≡ k → FirstIs k ts
-unfolding first_or if◌then◌else◌
+unfolding first_or
 first_exactly k [] z d e = never (eq-eqb k 0 (sym e)) z
 first_exactly k ((n when true) ∷ ts) z d e = rw (eq-eqb k n (sym e)) refl
 first_exactly k ((n when false) ∷ ts) z d e =
@@ -101,7 +100,7 @@ pub none_met : (ts : List (Test ℕ)) → NoneMet ts → first_met ts ≡ 0
 none_met ts h = none_given 0 ts h
 
 pub none_of : (ts : List (Test ℕ)) → nonzero ts ≡ true → first_met ts ≡ 0 → NoneMet ts
-unfolding first_or if◌then◌else◌
+unfolding first_or
 none_of [] d e = tt
 none_of ((n when true) ∷ ts) d e = absurd (never (eq-eqb n 0 e) (unequal (eqb n 0) (both (not (eqb n 0)) _ d).0))
 none_of ((n when false) ∷ ts) d e = (refl, none_of ts (both (not (eqb n 0)) _ d).1 e)
@@ -130,7 +129,7 @@ nonzero_append ((n when met) ∷ ts) us h k = let b = both (not (eqb n 0)) _ h i
 
 -- where one of the first is met, it decides; where none is, the others do
 pub append_met : (ts us : List (Test ℕ)) → eqb (first_met ts) 0 ≡ false → first_met (ts ++ us) ≡ first_met ts
-unfolding first_or if◌then◌else◌
+unfolding first_or
 append_met [] us e = absurd (never refl e)
 append_met ((n when true) ∷ ts) us e = refl
 append_met ((n when false) ∷ ts) us e = append_met ts us e

@@ -5,13 +5,12 @@ use mathlib.Core.Bool.{Bool, true, false}
 use native.Mathlib.Omega.{arith}
 use lib.Dec.{leb}
 use borrow.Author.Tests.{leb-true, leb-false}
-use Rattle.base.specs.Choice.{if◌then◌else◌}
 use Rattle.base.specs.Least.{Least, between, least}
 use Rattle.base.proofs.Choice.{either, never}
 
 -- the least number that is at least 5
 at_least_five : least (leb 5) 9 ≡ 5
-unfolding least between if◌then◌else◌
+unfolding least between
 at_least_five = refl
 
 -- where a second condition implies the first, its least number is no smaller

@@ -1,11 +1,11 @@
 -- The laws of lists in another order: what does not depend on it, and that it is what it says. Assumes nothing.
+use Rattle.std.proofs.Common.{if◌then◌else◌}
 use Prim.Native.Nat.{ℕ, suc, ◌+◌, ◌<◌}
 use mathlib.Core.Path.{◌≡◌, refl, sym, ap, subst}
 use mathlib.Core.Bool.{Bool, true, false}
 use mathlib.Core.List.{List, [], ◌∷◌, ◌++◌, map}
 use native.Mathlib.Omega.{arith}
 use lib.ListN.{length}
-use Rattle.base.specs.Choice.{if◌then◌else◌}
 use Rattle.base.specs.All.{all_pass}
 use Rattle.base.specs.Reordered.{Inserted, Reordered, SameCounts, how_many}
 use Rattle.base.specs.Sum.{sum_of}
@@ -178,7 +178,7 @@ module _ {A : Type 0} (same : A → A → Bool) (itself : (x : A) → same x x �
     place : Inserted x others xs
 
   found : (x : A) (xs : List A) → 0 < how_many (same x) xs → Found x xs
-  unfolding sum_of if◌then◌else◌
+  unfolding sum_of
   found x [] h = absurd (omega arith)
   found x (y ∷ ys) h = go (λ k. found x ys k) (same x y) refl h
     where
@@ -187,7 +187,7 @@ module _ {A : Type 0} (same : A → A → Bool) (itself : (x : A) → same x x �
       go later false e k = let f = later (omega arith) in record { others = _; place = Inserted.later f.place }
 
   pub counts_same : (xs ys : List A) → SameCounts xs ys → Reordered xs ys
-  unfolding sum_of if◌then◌else◌
+  unfolding sum_of
   counts_same [] [] h = Reordered.none
   counts_same [] (y ∷ ys) h = absurd (omega (arith, h (λ z. true)))
   counts_same (x ∷ xs) ys h =

@@ -1,7 +1,6 @@
 -- Tests in order, of which the first one met decides. 01: The four operations, "Refusals are tested in the order written, and the
 -- first one met is given"; Grounds for leaving an item out, "First that applies".
-use Rattle.std.specs.Prelude.{ℕ, ◌≡◌, Bool, true, false, List, [], ◌∷◌, eqb}
-use Rattle.base.specs.Choice.{if◌then◌else◌}
+use Rattle.std.specs.Prelude.{ℕ, ◌≡◌, Bool, true, false, List, [], ◌∷◌, eqb, if◌then◌else◌}
 
 -- what a test gives, and whether its condition is met
 infix 70 ◌when◌

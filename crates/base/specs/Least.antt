@@ -1,6 +1,5 @@
 -- The least number that passes a test.
-use Rattle.std.specs.Prelude.{ℕ, zero, suc, ◌+◌, ◌/◌, ◌≤◌, Bool, leb}
-use Rattle.base.specs.Choice.{if◌then◌else◌}
+use Rattle.std.specs.Prelude.{ℕ, zero, suc, ◌+◌, ◌/◌, ◌≤◌, Bool, leb, if◌then◌else◌}
 
 -- the meaning: h passes, and every number that passes is at least h
 pub record Least (Passes : ℕ → Type 0) (h : ℕ) : Type 0 where

@@ -1,6 +1,5 @@
 pub mod All
 pub mod Any
-pub mod Choice
 pub mod Each
 pub mod FirstMet
 pub mod Least

@@ -1,6 +1,5 @@
 -- The same elements of a list in another order. 02: L7
-use Rattle.std.specs.Prelude.{ℕ, ◌≡◌, Bool, List, [], ◌∷◌}
-use Rattle.base.specs.Choice.{if◌then◌else◌}
+use Rattle.std.specs.Prelude.{ℕ, ◌≡◌, Bool, List, [], ◌∷◌, if◌then◌else◌}
 use Rattle.base.specs.Sum.{sum_of}
 
 -- a list, and the same list with x put in somewhere

@@ -4,7 +4,6 @@ use mathlib.Core.Path.{◌≡◌, refl}
 use mathlib.Core.Bool.{true}
 use mathlib.Core.List.{List, [], ◌∷◌, ◌++◌, map}
 use lib.ListN.{replicate}
-use Rattle.base.specs.Choice.{if◌then◌else◌}
 use Rattle.base.specs.FirstMet.{first_or}
 use Rattle.base.specs.Range.{within}
 use Rattle.text.specs.Bytes.{byte, bytes}
@@ -30,7 +29,7 @@ use Rattle.book.specs.declared.reply.BookReply.{BookReply}
 
 -- `unfolding worked` opens every definition that an answer comes from
 unfoldable pub worked : List ℕ → List ℕ → List ℕ
-unfolding computed opened_deal report_refusal collateral_list_tests guarantee_list_tests add_collateral_tests add_collateral_refusal with_collateral add_guarantee_tests add_guarantee_refusal with_guarantee first_or within if◌then◌else◌ starts_with same_bytes extend_first lines_of first_line decimal_from digits_of number_allowed number_read number_of field_of is_end and_then with_number fields_of width_under with_sovereign deal_line collateral_line guarantee_line swap_line if_read line_of own_lines deals_from opening_refusal opened_by line_refusal with_line refused_at reported lines_answer deal_answer answers_from heading_of book_tests book_refusal answered_deals book_reply results_after
+unfolding computed opened_deal report_refusal collateral_list_tests guarantee_list_tests add_collateral_tests add_collateral_refusal with_collateral add_guarantee_tests add_guarantee_refusal with_guarantee first_or within starts_with same_bytes extend_first lines_of first_line decimal_from digits_of number_allowed number_read number_of field_of is_end and_then with_number fields_of width_under with_sovereign deal_line collateral_line guarantee_line swap_line if_read line_of own_lines deals_from opening_refusal opened_by line_refusal with_line refused_at reported lines_answer deal_answer answers_from heading_of book_tests book_refusal answered_deals book_reply results_after
 worked book before = results_after book before
 
 abbrev pub example : List ℕ

@@ -1,7 +1,6 @@
 -- The answers to the deals of a book. 01: The book; Adding an item, "A refused line leaves the deal as it was before it"; 02: L5, "Opening is
 -- given what the header says with the deal's own fields"
-use Rattle.std.specs.Prelude.{ℕ, ◌+◌, List, [], ◌∷◌, ◌++◌, eqb}
-use Rattle.base.specs.Choice.{if◌then◌else◌}
+use Rattle.std.specs.Prelude.{ℕ, ◌+◌, List, [], ◌∷◌, ◌++◌, eqb, if◌then◌else◌}
 use Rattle.deal.specs.Fields.{zero_terms}
 use Rattle.deal.specs.Terms.{terms_refusal}
 use Rattle.deal.specs.Opening.{opened_deal}

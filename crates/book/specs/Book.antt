@@ -1,7 +1,6 @@
 -- Answering a book. 01: The four operations, Answering a book; The book
-use Rattle.std.specs.Prelude.{ℕ, ◌*◌, not, List, [], ◌∷◌, eqb, ltb, drop, length, take}
+use Rattle.std.specs.Prelude.{ℕ, ◌*◌, not, List, [], ◌∷◌, eqb, ltb, drop, length, take, if◌then◌else◌}
 use Rattle.base.specs.All.{all_pass}
-use Rattle.base.specs.Choice.{if◌then◌else◌}
 use Rattle.base.specs.Writing.{overwrite}
 use Rattle.base.specs.FirstMet.{Test, ◌when◌, first_met}
 use Rattle.text.specs.Text.{book_limit, first_line, lines_of}

@@ -1,6 +1,5 @@
 -- What the first line of a book says. 01: The book; Answering a book; 02: L5, L9
-use Rattle.std.specs.Prelude.{ℕ, Bool, true, false, List}
-use Rattle.base.specs.Choice.{if◌then◌else◌}
+use Rattle.std.specs.Prelude.{ℕ, Bool, true, false, List, if◌then◌else◌}
 use Rattle.text.specs.Bytes.{bytes}
 use Rattle.text.specs.Text.{same_bytes}
 use Rattle.book.specs.declared.heading.Heading.{Heading}

@@ -8,7 +8,6 @@ use native.Mathlib.Omega.{arith}
 use lib.ListN.{length, take, drop}
 use lib.Seq.{take_at, drop_at}
 use Rattle.base.specs.All.{all_pass}
-use Rattle.base.specs.Choice.{if◌then◌else◌}
 use Rattle.text.specs.Text.{first_line, lines_of, same_bytes, starts_with}
 use Rattle.text.proofs.Lines.{no_lines}
 use Rattle.book.specs.Deals.{DealLines, opens_deal, deals_from}
@@ -67,7 +66,7 @@ part_behind n k first second rest e h =
 pub behind_heading : (text : List ℕ) →
     ((text_behind (first_header ++ text) ≡ text) × (book_edition (first_header ++ text) ≡ 1))
     × ((text_behind (second_header ++ text) ≡ text) × (book_edition (second_header ++ text) ≡ 2))
-unfolding first_line heading_of same_bytes starts_with if◌then◌else◌
+unfolding first_line heading_of same_bytes starts_with
 behind_heading text = ((refl, refl), (refl, refl))
 
 module _ (book before own after list : List ℕ) (e : text_behind book ≡ before ++ (own ++ after)) (b : ended before ≡ true) (f : Parted own after) (s : StartsDeal own) (t : StartsDeal after) where

@@ -1,4 +1,5 @@
 -- Credit derivatives count for what they should, and take no answer from a book without them. Assumes nothing.
+use Rattle.std.proofs.Common.{if◌then◌else◌}
 use Prim.Native.Nat.{ℕ, ◌≤◌}
 use mathlib.Core.Path.{◌≡◌, refl, sym, ◌∙◌}
 use mathlib.Core.Bool.{Bool, beq, true, false, not, ◌&&◌}
@@ -7,7 +8,6 @@ use native.Mathlib.Omega.{arith}
 use borrow.Author.Tests.{le-leb, lt-leb}
 use lib.Dec.{eqb}
 use lib.ListN.{drop, replicate, take}
-use Rattle.base.specs.Choice.{if◌then◌else◌}
 use Rattle.base.specs.FirstMet.{Test, ◌when◌, first_met, first_or}
 use Rattle.base.proofs.Choice.{if_false}
 use Rattle.base.proofs.Every.{every}
@@ -50,7 +50,7 @@ use Rattle.claims.specs.CreditDerivatives.{CreditDerivatives, filled, guarantee_
 -- What of a swap is hedged
 
 value_met : (t : Terms) (g : Guarantee) → g.instrument ≡ guarantee_instrument → guarantee_valuation t (as_swap 1 g) ≡ guarantee_valuation t g
-unfolding guarantee_valuation hedged_amount if◌then◌else◌
+unfolding guarantee_valuation hedged_amount
 value_met t g e = rw e
 
 outcome_met : (table : Table) (t : Terms) (g : Guarantee) → g.instrument ≡ guarantee_instrument → guarantee_outcome table t (as_swap 1 g) ≡ guarantee_outcome table t g
@@ -77,15 +77,15 @@ after_cut t g = refl
 -- Lines
 
 line_1 : (rest : List ℕ) → line_of 1 (byte "S" ∷ rest) ≡ if_read (λ fields. GuaranteeLine (swap_sent (take 3 fields ++ 0 ∷ drop 3 fields))) (fields_of 10 rest)
-unfolding line_of swap_line width_under with_sovereign if◌then◌else◌
+unfolding line_of swap_line width_under with_sovereign
 line_1 rest = refl
 
 line_2 : (rest : List ℕ) → line_of 2 (byte "S" ∷ rest) ≡ if_read (λ fields. GuaranteeLine (swap_sent fields)) (fields_of 11 rest)
-unfolding line_of swap_line width_under with_sovereign if◌then◌else◌
+unfolding line_of swap_line width_under with_sovereign
 line_2 rest = refl
 
 line_3 : (rest : List ℕ) → line_of 3 (byte "S" ∷ rest) ≡ if_read (λ fields. GuaranteeLine (swap_sent fields)) (fields_of 11 rest)
-unfolding line_of swap_line width_under with_sovereign if◌then◌else◌
+unfolding line_of swap_line width_under with_sovereign
 line_3 rest = refl
 
 brought : (d : Deal) (g : Guarantee) → (line_refusal d (GuaranteeLine g) ≡ add_guarantee_refusal d g) × (with_line d (GuaranteeLine g) ≡ with_guarantee d g)
@@ -102,7 +102,7 @@ numbered ((n when met) ∷ ts) = (eqb n 0 ≡ false) × numbered ts
 -- a last test that is met, in place of another of the same number
 last_met : (front : List (Test ℕ)) → numbered front → (n : ℕ) → eqb n 0 ≡ false → (met : Bool) →
     first_met (front ++ (n when true) ∷ []) ≡ (if eqb (first_met (front ++ (n when met) ∷ [])) 0 then n else first_met (front ++ (n when met) ∷ []))
-unfolding first_or if◌then◌else◌
+unfolding first_or
 last_met [] ok n k true = sym (if_false _ _ _ k)
 last_met [] ok n k false = refl
 last_met ((m when true) ∷ front) ok n k met = sym (if_false _ _ _ ok.0)

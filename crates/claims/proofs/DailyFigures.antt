@@ -4,8 +4,8 @@ use mathlib.Core.Path.{◌≡◌, refl, sym}
 use mathlib.Core.Bool.{true, false}
 use Rattle.base.proofs.Choice.{if_false, if_true}
 use Rattle.scaling.specs.Period.{guarantee_period, holding_period}
-use Rattle.scaling.specs.Scaling.{IsScaled, scaled}
-use Rattle.scaling.specs.Stored.{figure_over, is_daily, is_stored, stored_line}
+use Rattle.scaling.specs.Scaling.{scaled}
+use Rattle.scaling.specs.Stored.{is_daily, is_stored, stored_line}
 use Rattle.scaling.specs.declared.stored.Stored.TheVariants.{Figures, Nothing}
 use Rattle.scaling.proofs.DailyDeals.{currency_haircut_stored, daily_guarantee_period, daily_period, each_of_a_table, every_haircut_stored, every_lent_haircut_stored, factors, printed}
 use Rattle.scaling.proofs.Periods.{periods}

@@ -6,7 +6,6 @@ use mathlib.Core.List.{List, [], ◌∷◌, map}
 use lib.Dec.{eqb}
 use lib.ListN.{get_or, length, replicate, take}
 use borrow.Author.Tests.{eq-eqb}
-use Rattle.base.specs.Choice.{if◌then◌else◌}
 use Rattle.base.specs.FirstMet.{◌when◌, first_or}
 use Rattle.base.specs.Range.{within}
 use Rattle.base.proofs.Choice.{either, if_true}
@@ -68,7 +67,7 @@ opening_each : map (λ fields. terms_refusal (terms_in fields)) (
     ∷ (0 ∷ 1 ∷ 0 ∷ 0 ∷ 1 ∷ 1 ∷ 0 ∷ 0 ∷ 1 ∷ 0 ∷ 0 ∷ 2 ∷ [])
     ∷ []
     ) ≡ of_opening
-unfolding terms_refusal terms_tests first_or within party_step_allowed sovereign_step_allowed party_steps_allowed asset_step_allowed life_allowed if◌then◌else◌
+unfolding terms_refusal terms_tests first_or within party_step_allowed sovereign_step_allowed party_steps_allowed asset_step_allowed life_allowed
 opening_each = refl
 
 -- by adding
@@ -91,7 +90,7 @@ adding_each :
     ∷ (0 ∷ 1 ∷ 0 ∷ 0 ∷ 1 ∷ 1 ∷ 1 ∷ 2 ∷ [])
     ∷ []
     ) ≡ of_adding)
-unfolding add_collateral_refusal add_collateral_tests record_allowed collateral_list_tests collateral_list_allowed guarantee_list_allowed terms_refusal terms_tests collateral_refusal collateral_tests guarantee_refusal guarantee_tests first_or within party_step_allowed sovereign_step_allowed party_steps_allowed asset_step_allowed life_allowed if◌then◌else◌
+unfolding add_collateral_refusal add_collateral_tests record_allowed collateral_list_tests collateral_list_allowed guarantee_list_allowed terms_refusal terms_tests collateral_refusal collateral_tests guarantee_refusal guarantee_tests first_or within party_step_allowed sovereign_step_allowed party_steps_allowed asset_step_allowed life_allowed
 adding_each = refl
 
 guarantees_each :
@@ -110,16 +109,16 @@ guarantees_each :
     ∷ (0 ∷ 1 ∷ 0 ∷ 0 ∷ 1 ∷ 1 ∷ 1 ∷ 2 ∷ [])
     ∷ []
     ) ≡ of_adding)
-unfolding add_guarantee_refusal add_guarantee_tests record_allowed guarantee_list_tests collateral_list_allowed guarantee_list_allowed terms_refusal terms_tests collateral_refusal collateral_tests guarantee_refusal guarantee_tests first_or within party_step_allowed sovereign_step_allowed party_steps_allowed asset_step_allowed life_allowed if◌then◌else◌
+unfolding add_guarantee_refusal add_guarantee_tests record_allowed guarantee_list_tests collateral_list_allowed guarantee_list_allowed terms_refusal terms_tests collateral_refusal collateral_tests guarantee_refusal guarantee_tests first_or within party_step_allowed sovereign_step_allowed party_steps_allowed asset_step_allowed life_allowed
 guarantees_each = refl
 
 -- by reporting
 reporting_each : report_refusal (deal_with (terms_in sound) [] []) ∷ report_refusal (deal_with (terms_in []) [] []) ∷ [] ≡ of_reporting
-unfolding report_refusal accepted record_allowed collateral_list_allowed guarantee_list_allowed terms_refusal terms_tests first_or within party_step_allowed sovereign_step_allowed party_steps_allowed asset_step_allowed life_allowed if◌then◌else◌
+unfolding report_refusal accepted record_allowed collateral_list_allowed guarantee_list_allowed terms_refusal terms_tests first_or within party_step_allowed sovereign_step_allowed party_steps_allowed asset_step_allowed life_allowed
 reporting_each = refl
 
 opening_numbers : (t : Terms) → Among of_opening (terms_refusal t)
-unfolding terms_refusal terms_tests first_or if◌then◌else◌
+unfolding terms_refusal terms_tests first_or
 opening_numbers t = first_holds 0 (Among of_opening) (take 5 (field_tests (terms_checks days_limit t))) (refl, (refl, (refl, (refl, (refl, tt))))) (λ none. refl)
 
 collateral_numbers : (d : Deal) (c : Collateral) → Among of_adding (add_collateral_refusal d c)

@@ -1,11 +1,11 @@
 -- Where the value went: the theorems that answer claims/specs/Losses. Assumes nothing.
+use Rattle.std.proofs.Common.{if◌then◌else◌}
 use Prim.Native.Nat.{ℕ, ◌+◌, ◌*◌, ◌/◌, ◌≤◌, min}
 use mathlib.Core.Path.{◌≡◌, refl, sym, ap, ◌∙◌}
 use mathlib.Core.Bool.{false}
 use mathlib.Core.List.{[], ◌∷◌}
 use native.Mathlib.Omega.{arith}
 use lib.Dec.{eqb}
-use Rattle.base.specs.Choice.{if◌then◌else◌}
 use Rattle.tables.specs.Table.{Table}
 use Rattle.scaling.specs.Period.{guarantee_period}
 use Rattle.valuation.specs.Haircuts.{scaled_currency_haircut}

@@ -3,7 +3,6 @@ use Prim.Native.Nat.{ℕ, suc, ◌≤◌}
 use mathlib.Core.Path.{◌≡◌, refl, ap, ◌∙◌}
 use mathlib.Core.List.{List, [], ◌∷◌, ◌++◌, append_assoc}
 use lib.ListN.{length}
-use Rattle.base.specs.Choice.{if◌then◌else◌}
 use Rattle.text.proofs.Lines.{no_lines}
 use Rattle.text.proofs.WholeLines.{fed_line, last_line}
 use Rattle.result.specs.List.{number_lines}
@@ -36,7 +35,7 @@ unfolding number_lines
 one_a_line k n numbers = append_assoc (number_text n) (10 ∷ []) (number_lines k numbers)
 
 pub mailed_books : MailedBooks
-unfolding feeds worked number_lines number_text digit_text if◌then◌else◌
+unfolding feeds worked number_lines number_text digit_text
 mailed_books = record {
   of_nothing = on_runs.nothing;
   spaces = on_runs.spaces;

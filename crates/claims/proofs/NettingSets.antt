@@ -1,19 +1,17 @@
 -- A netting set is answered by the formula of 22.72 or refused where it is due, and betterments never raise its weighted amount. Assumes nothing.
-use Prim.Native.Nat.{ℕ, zero, suc, ◌+◌, ◌*◌, ◌≤◌, ◌<◌}
+use Rattle.std.proofs.Common.{if◌then◌else◌}
+use Prim.Native.Nat.{ℕ, ◌+◌, ◌*◌, ◌≤◌, ◌<◌}
 use mathlib.Core.Path.{◌≡◌, refl, sym, ap, subst, ◌∙◌}
 use mathlib.Core.Bool.{Bool, true, false, not, ◌&&◌}
 use mathlib.Core.List.{List, [], ◌∷◌, ◌++◌}
-use native.Mathlib.Nat.{le_of_suc-le-suc, not-suc-le-zero}
+use native.Mathlib.Nat.{le_of_suc-le-suc}
 use native.Mathlib.Decide.{ℕ_discrete}
 use native.Mathlib.Omega.{arith}
-use lib.Dec.{eqb, leb}
+use lib.Dec.{eqb}
 use lib.ListN.{get_or, length}
-use borrow.Author.Tests.{eq-eqb, eqb-true, eqb-false, le-ltb, lt-ltb, ne_eqb}
+use borrow.Author.Tests.{eq-eqb, eqb-true, le-ltb, lt-ltb, ne_eqb}
 use Rattle.base.specs.Any.{any, any_two}
-use Rattle.base.specs.Choice.{if◌then◌else◌}
-use Rattle.base.specs.Each.{Each}
 use Rattle.base.specs.FirstMet.{ExactFor, Test, ◌when◌, first_met, first_or}
-use Rattle.base.specs.Range.{within}
 use Rattle.base.specs.Rounding.{round_up}
 use Rattle.base.specs.Sum.{sum_of}
 use Rattle.base.proofs.Choice.{either, if_true, if_false, never}
@@ -32,10 +30,9 @@ use Rattle.deal.specs.Parties.{party_step_allowed, party_steps_allowed, sovereig
 use Rattle.netting.specs.Exposure.{exposure_after_netting}
 use Rattle.netting.specs.Fields.{zero_position}
 use Rattle.netting.specs.Haircuts.{currency_haircut_over, security_haircut, set_period}
-use Rattle.netting.specs.Nets.{lent}
-use Rattle.netting.specs.Positions.{fields_of_each, is_lent, position_refusal, position_tests, security_allowed}
-use Rattle.netting.specs.Refusals.{disagree, received_not_eligible, same_goods, set_refusal, tests_over_all}
-use Rattle.netting.specs.Reply.{positions_of, reply_to, set_reply, set_weight, weighted_amount}
+use Rattle.netting.specs.Positions.{is_lent, position_refusal, position_tests, security_allowed}
+use Rattle.netting.specs.Refusals.{disagree, received_not_eligible, same_goods, tests_over_all}
+use Rattle.netting.specs.Reply.{set_reply, set_weight, weighted_amount}
 use Rattle.netting.specs.Terms.{set_terms_refusal, set_terms_tests}
 use Rattle.netting.specs.declared.position.Position.{Position}
 use Rattle.netting.specs.declared.set.NettingSet.{NettingSet}
@@ -44,7 +41,7 @@ use Rattle.netting.proofs.Computed.{computed}
 use Rattle.netting.proofs.HaircutBounds.{together_low}
 use Rattle.netting.proofs.Refusing.{PlainPosition, PlainSet, each_fields, fields_each, over_all, plain_position, plain_positions, plain_set, position_refused, terms_refused, too_many}
 use Rattle.netting.proofs.Replies.{accepted_reply, refused_reply_lem, same_figures}
-use Rattle.netting_laws.specs.Betterments.{BetterSet, SetBetterments, accepted_set, accepted_set_view, lent_alone, lent_only}
+use Rattle.netting_laws.specs.Betterments.{BetterSet, SetBetterments, accepted_set, accepted_set_view, lent_alone}
 use Rattle.netting_laws.specs.ByNumber.{haircut_for}
 use Rattle.netting_laws.proofs.ByPlace.{any_at, each_at_place, each_from, first_refused, no_two_at, none_at, two_at}
 use Rattle.netting_laws.proofs.InNumbers.{in_numbers, lent_by_side}
@@ -88,7 +85,7 @@ numbers s e i h =
 -- tests that are never met do not count
 terms_trimmed : (a b c d : Bool) →
     first_met (1 when false ∷ 2 when a ∷ 3 when b ∷ 4 when c ∷ 5 when d ∷ 7 when false ∷ 8 when false ∷ []) ≡ first_met (2 when a ∷ 3 when b ∷ 4 when c ∷ 5 when d ∷ [])
-unfolding first_or if◌then◌else◌
+unfolding first_or
 terms_trimmed true b c d = refl
 terms_trimmed false true c d = refl
 terms_trimmed false false true d = refl
@@ -97,7 +94,7 @@ terms_trimmed false false false false = refl
 
 position_trimmed : (a b c d e : Bool) →
     first_met (1 when a ∷ 2 when b ∷ 3 when c ∷ 4 when d ∷ 5 when e ∷ 7 when false ∷ 8 when false ∷ []) ≡ first_met (1 when a ∷ 2 when b ∷ 3 when c ∷ 4 when d ∷ 5 when e ∷ [])
-unfolding first_or if◌then◌else◌
+unfolding first_or
 position_trimmed true b c d e = refl
 position_trimmed false true c d e = refl
 position_trimmed false false true d e = refl
@@ -259,7 +256,7 @@ eligible_haircut table goods step life e =
     either (λ (t : Table). t.lent_haircut goods step life ≡ t.haircut goods step life) (eqb table 3) (λ t. if_true (eligible goods step 0) _ _ e) (λ t. if_true (eligible goods step 0) _ _ e)
 
 other_haircut : (table goods step life : ℕ) → eligible goods step 0 ≡ false → (table_of table).lent_haircut goods step life ≡ (if eqb table 3 then 300000 else 250000)
-unfolding table_of lent_haircut lent_haircut_2023 if◌then◌else◌
+unfolding table_of lent_haircut lent_haircut_2023
 other_haircut table goods step life e = go (eqb table 3)
   where
     go : (b : Bool) → (if b then table_2023 else table_2019 table).lent_haircut goods step life ≡ (if b then 300000 else 250000)

@@ -7,7 +7,6 @@ use native.Mathlib.Omega.{arith}
 use borrow.Author.Tests.{le-leb, lt-leb, ne_eqb}
 use lib.Dec.{eqb, leb}
 use lib.ListN.{replicate}
-use Rattle.base.specs.Choice.{if◌then◌else◌}
 use Rattle.base.specs.FirstMet.{first_met, first_or}
 use Rattle.base.specs.Range.{within}
 use Rattle.base.proofs.Choice.{if_false}
@@ -53,15 +52,15 @@ use Rattle.claims.specs.SovereignFloor.{SovereignFloor, sample, sample_answers, 
 -- Weights
 
 bank_floor : (sovereign_step : ℕ) → counterparty_weight 2 bank 0 sovereign_step ≡ max 50 (table_weight sovereign sovereign_step)
-unfolding counterparty_weight own_weight at_least_sovereign has_floor table_weight step_column if◌then◌else◌
+unfolding counterparty_weight own_weight at_least_sovereign has_floor table_weight step_column
 bank_floor sovereign_step = refl
 
 corporate_floor : (sovereign_step : ℕ) → counterparty_weight 2 corporate 0 sovereign_step ≡ max 100 (table_weight sovereign sovereign_step)
-unfolding counterparty_weight own_weight at_least_sovereign has_floor table_weight step_column if◌then◌else◌
+unfolding counterparty_weight own_weight at_least_sovereign has_floor table_weight step_column
 corporate_floor sovereign_step = refl
 
 provider_floor : (sovereign_step : ℕ) → provider_weight 2 bank_or_securities_firm 0 sovereign_step ≡ max 50 (table_weight sovereign sovereign_step)
-unfolding provider_weight at_least_sovereign has_floor table_weight step_column if◌then◌else◌
+unfolding provider_weight at_least_sovereign has_floor table_weight step_column
 provider_floor sovereign_step = refl
 
 -- where the floor does not apply
@@ -101,7 +100,7 @@ others step sovereign_step = (
 
 no_floor : (class step sovereign_step : ℕ) →
     (counterparty_weight 1 class step sovereign_step ≡ own_weight class step) × (provider_weight 1 class step sovereign_step ≡ table_weight class step)
-unfolding counterparty_weight provider_weight at_least_sovereign has_floor if◌then◌else◌
+unfolding counterparty_weight provider_weight at_least_sovereign has_floor
 no_floor class step sovereign_step = (refl, refl)
 
 floors :
@@ -121,7 +120,7 @@ provider_weight_used t g n = rw (of_2019 t.edition n)
 
 entity_left_out : (t : Terms) (g : Guarantee) → g.provider.class ≡ other_entity → g.provider.step ≡ 0 →
     g.lawful ≡ 1 → g.direct ≡ 1 → g.not_in_rating ≡ 1 → guarantee_ground (table_for t) t g ≡ 28
-unfolding guarantee_ground guarantee_grounds first_or if◌then◌else◌
+unfolding guarantee_ground guarantee_grounds first_or
 entity_left_out t g class step lawful direct rating = rw (lawful, direct, rating, class, step)
 
 -- The header and the lines
@@ -136,15 +135,15 @@ headed_2 book e =
     (ap (λ l. is_wrong (heading_of l)) line ∙ second_heading.0, ap (λ l. edition_of (heading_of l)) line ∙ second_heading.1)
 
 deal_line_2 : (rest : List ℕ) → line_of 2 (byte "D" ∷ rest) ≡ if_read (λ fields. DealLine (terms_under 2 fields)) (fields_of 11 rest)
-unfolding line_of deal_line width_under with_sovereign if◌then◌else◌
+unfolding line_of deal_line width_under with_sovereign
 deal_line_2 rest = refl
 
 guarantee_line_2 : (rest : List ℕ) → line_of 2 (byte "G" ∷ rest) ≡ if_read (λ fields. GuaranteeLine (guarantee_sent fields)) (fields_of 10 rest)
-unfolding line_of guarantee_line width_under with_sovereign if◌then◌else◌
+unfolding line_of guarantee_line width_under with_sovereign
 guarantee_line_2 rest = refl
 
 collateral_line_2 : (rest : List ℕ) → line_of 2 (byte "C" ∷ rest) ≡ line_of 1 (byte "C" ∷ rest)
-unfolding line_of if◌then◌else◌
+unfolding line_of
 collateral_line_2 rest = refl
 
 -- The refusals
@@ -159,11 +158,11 @@ editions_unknown edition h = and_second (leb 1 edition) (leb edition 3) (le-leb 
 
 -- the second or third test is met, and none before it
 second_met : (c : FieldChecks) → c.amount ≡ true → c.codes ≡ false → first_met (field_tests c) ≡ 2
-unfolding first_or if◌then◌else◌
+unfolding first_or
 second_met c a b = rw (a, b)
 
 third_met : (c : FieldChecks) → c.amount ≡ true → c.codes ≡ true → c.steps ≡ false → first_met (field_tests c) ≡ 3
-unfolding first_or if◌then◌else◌
+unfolding first_or
 third_met c a b s = rw (a, b, s)
 
 and_false : (a b : Bool) → b ≡ false → (a && b) ≡ false
@@ -180,7 +179,7 @@ steps_of_sovereigns : (class step s : ℕ) → let party : Party = record { clas
     × (class ≡ bank → sovereign_step_allowed party ≡ leb s 6)
     × (class ≡ corporate → sovereign_step_allowed party ≡ leb s 6)
     × (class ≡ retail → sovereign_step_allowed party ≡ eqb s 0)
-unfolding sovereign_step_allowed if◌then◌else◌
+unfolding sovereign_step_allowed
 steps_of_sovereigns class step s = (λ e. rw e, λ e. rw e, λ e. rw e, λ e. rw e)
 
 wrong_step : (t : Terms) → (terms_checks days_limit t).amount ≡ true → (terms_checks days_limit t).codes ≡ true → sovereign_step_allowed t.counterparty ≡ false → terms_refusal t ≡ 3
@@ -291,5 +290,5 @@ record_reported = refl
 -- which weights these are
 weighed :
     (counterparty_weight 2 corporate 0 6 ≡ 150) × (provider_weight 2 bank_or_securities_firm 0 4 ≡ 100) × (counterparty_weight 2 corporate 1 6 ≡ 20)
-unfolding table_weight own_weight step_column if◌then◌else◌
+unfolding table_weight own_weight step_column
 weighed = (sovereign_floor.corporate_floor 6, sovereign_floor.provider_floor 4, sovereign_floor.rated_counterparty corporate 1 6 (omega arith))

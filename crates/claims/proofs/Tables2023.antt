@@ -7,7 +7,6 @@ use native.Mathlib.Omega.{arith}
 use lib.Dec.{eqb}
 use lib.ListN.{get_or, replicate}
 use borrow.Author.Tests.{eq-eqb}
-use Rattle.base.specs.Choice.{if◌then◌else◌}
 use Rattle.base.proofs.Choice.{if_false, if_true, either₂}
 use Rattle.tables.specs.Classes.{bank, bank_or_securities_firm, corporate, other_entity, retail, sovereign}
 use Rattle.tables.specs.Eligibility.{eligible}
@@ -62,11 +61,11 @@ headed_3 book e =
     (ap (λ l. is_wrong (heading_of l)) line ∙ third_heading.0, ap (λ l. edition_of (heading_of l)) line ∙ third_heading.1)
 
 deal_line_3 : (rest : List ℕ) → line_of 3 (byte "D" ∷ rest) ≡ if_read (λ fields. DealLine (terms_under 3 fields)) (fields_of 11 rest)
-unfolding line_of deal_line width_under with_sovereign if◌then◌else◌
+unfolding line_of deal_line width_under with_sovereign
 deal_line_3 rest = refl
 
 other_line_3 : (letter : ℕ) (rest : List ℕ) → eqb letter (byte "D") ≡ false → line_of 3 (letter ∷ rest) ≡ line_of 2 (letter ∷ rest)
-unfolding line_of guarantee_line swap_line width_under with_sovereign if◌then◌else◌
+unfolding line_of guarantee_line swap_line width_under with_sovereign
 other_line_3 letter rest n = rw n
 
 empty_line_3 : line_of 3 [] ≡ line_of 2 []
@@ -98,28 +97,28 @@ abbrev row : ℕ → ℕ → ℕ
 row r band = get_or (get_or other_issuers_2023 r []) band not_eligible_2023
 
 step_1 : InBands (table_2023.haircut other_debt 1) 10000 30000 40000 60000 120000
-unfolding haircut_2023 debt_haircut_2023 other_issuers_haircut_2023 row_of if◌then◌else◌
+unfolding haircut_2023 debt_haircut_2023 other_issuers_haircut_2023 row_of
 step_1 = in_bands (table_2023.haircut other_debt 1) (row 0) (λ life. refl)
 
 step_2 : InBands (table_2023.haircut other_debt 2) 20000 40000 60000 120000 200000
-unfolding haircut_2023 debt_haircut_2023 other_issuers_haircut_2023 row_of if◌then◌else◌
+unfolding haircut_2023 debt_haircut_2023 other_issuers_haircut_2023 row_of
 step_2 = in_bands (table_2023.haircut other_debt 2) (row 1) (λ life. refl)
 
 step_3 : InBands (table_2023.haircut other_debt 3) 20000 40000 60000 120000 200000
-unfolding haircut_2023 debt_haircut_2023 other_issuers_haircut_2023 row_of if◌then◌else◌
+unfolding haircut_2023 debt_haircut_2023 other_issuers_haircut_2023 row_of
 step_3 = in_bands (table_2023.haircut other_debt 3) (row 1) (λ life. refl)
 
 bank_paper : (step life : ℕ) → table_2023.haircut bank_debt step life ≡ table_2023.haircut other_debt step life
-unfolding haircut_2023 debt_haircut_2023 if◌then◌else◌
+unfolding haircut_2023 debt_haircut_2023
 bank_paper step life = refl
 
 unrated_bank_paper : InBands (table_2023.haircut bank_debt 0) 20000 40000 60000 120000 200000
-unfolding haircut_2023 debt_haircut_2023 other_issuers_haircut_2023 row_of if◌then◌else◌
+unfolding haircut_2023 debt_haircut_2023 other_issuers_haircut_2023 row_of
 unrated_bank_paper = in_bands (table_2023.haircut bank_debt 0) (row 1) (λ life. refl)
 
 equity_and_gold : (step life : ℕ) →
     (table_2023.haircut main_index_equity step life ≡ 200000) × (table_2023.haircut gold step life ≡ 200000) × (table_2023.haircut other_listed_equity step life ≡ 300000)
-unfolding haircut_2023 if◌then◌else◌
+unfolding haircut_2023
 equity_and_gold step life = (refl, refl, refl)
 
 lent_not_eligible : (goods step life : ℕ) → eligible goods step 0 ≡ false → table_2023.lent_haircut goods step life ≡ 300000
@@ -131,11 +130,11 @@ unfolding lent_haircut_2023
 lent_eligible goods step life e = if_true _ _ _ e
 
 bank_2 : (sovereign_step : ℕ) → (table_2023.counterparty_weight bank 2 sovereign_step ≡ 30) × (table_2023.provider_weight bank_or_securities_firm 2 sovereign_step ≡ 30)
-unfolding counterparty_weight_2023 provider_weight_2023 own_weight_2023 table_weight_2023 at_least_sovereign has_floor if◌then◌else◌
+unfolding counterparty_weight_2023 provider_weight_2023 own_weight_2023 table_weight_2023 at_least_sovereign has_floor
 bank_2 sovereign_step = (refl, refl)
 
 corporate_3 : (sovereign_step : ℕ) → (table_2023.counterparty_weight corporate 3 sovereign_step ≡ 75) × (table_2023.provider_weight other_entity 3 sovereign_step ≡ 75)
-unfolding counterparty_weight_2023 provider_weight_2023 own_weight_2023 table_weight_2023 at_least_sovereign has_floor if◌then◌else◌
+unfolding counterparty_weight_2023 provider_weight_2023 own_weight_2023 table_weight_2023 at_least_sovereign has_floor
 corporate_3 sovereign_step = (refl, refl)
 
 bank_unrated : map (table_2023.counterparty_weight bank 0) steps ++ map (table_2023.provider_weight bank_or_securities_firm 0) steps ≡ replicate 14 150
@@ -161,15 +160,15 @@ unfolding table_for
 eligible_same t goods step listed = always_eligible t.edition goods step listed
 
 cash_same : (step life : ℕ) → table_2023.haircut cash step life ≡ haircut cash step life
-unfolding haircut_2023 haircut if◌then◌else◌
+unfolding haircut_2023 haircut
 cash_same step life = refl
 
 sovereign_same : (step life : ℕ) → table_2023.haircut sovereign_debt step life ≡ haircut sovereign_debt step life
-unfolding haircut_2023 debt_haircut_2023 haircut if◌then◌else◌
+unfolding haircut_2023 debt_haircut_2023 haircut
 sovereign_same step life = refl
 
 securitisation_same : (step life : ℕ) → table_2023.haircut securitisation step life ≡ haircut securitisation step life
-unfolding haircut_2023 debt_haircut_2023 haircut if◌then◌else◌
+unfolding haircut_2023 debt_haircut_2023 haircut
 securitisation_same step life = refl
 
 table_same : (class step : ℕ) → NotListed class step → table_weight_2023 class step ≡ table_weight class step
@@ -189,7 +188,7 @@ unfolding provider_weight_2023 provider_weight has_floor
 provider_same class step sovereign_step n = rw (table_same class step n)
 
 corporate_floor : (sovereign_step : ℕ) → table_2023.counterparty_weight corporate 0 sovereign_step ≡ max 100 (table_weight sovereign sovereign_step)
-unfolding counterparty_weight_2023 own_weight_2023 table_weight_2023 at_least_sovereign has_floor table_weight step_column if◌then◌else◌
+unfolding counterparty_weight_2023 own_weight_2023 table_weight_2023 at_least_sovereign has_floor table_weight step_column
 corporate_floor sovereign_step = refl
 
 -- The grounds

@@ -9,9 +9,8 @@
 -- claims/specs/SovereignFloor). Each item of the list of guarantees has an instrument: 0 a guarantee, 1 a swap without the condition, 2 one with it
 -- (deal/specs/Instruments). The order of cover is `rising_order` of claims/specs/Demand2, over the pieces of guarantees and swaps alike; the rule on
 -- betterments is claims/specs/Demand3.
-use Rattle.std.specs.Prelude.{ℕ, zero, suc, ◌+◌, ◌*◌, ◌/◌, ◌≤◌, min, ◌≡◌, true, false, not, ◌&&◌, List, [], ◌∷◌, ◌++◌, map, eqb, leb, drop, get_or, replicate, take}
+use Rattle.std.specs.Prelude.{ℕ, zero, suc, ◌+◌, ◌*◌, ◌/◌, ◌≤◌, min, ◌≡◌, true, false, not, ◌&&◌, List, [], ◌∷◌, ◌++◌, map, eqb, leb, drop, get_or, replicate, take, if◌then◌else◌}
 use Rattle.base.specs.All.{all_pass}
-use Rattle.base.specs.Choice.{if◌then◌else◌}
 use Rattle.tables.specs.Table.{Table}
 use Rattle.scaling.specs.Period.{guarantee_period}
 use Rattle.valuation.specs.Haircuts.{scaled_currency_haircut}

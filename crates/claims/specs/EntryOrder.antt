@@ -10,8 +10,7 @@
 -- among one another. One with a refused line is refused in every order, but not always by the same number: its first refused line answers it, and which
 -- is the seventeenth of a list depends on the order. A split is claimed where both parts fit, that is, with at most fifteen items before; of a book with a
 -- line more, where it is still accepted, since it has more bytes (10).
-use Rattle.std.specs.Prelude.{ℕ, zero, suc, ◌+◌, ◌*◌, ◌≤◌, ◌<◌, ◌≡◌, Bool, true, false, List, [], ◌∷◌, ◌++◌, map, eqb, drop, get_or, length, replicate, take}
-use Rattle.base.specs.Choice.{if◌then◌else◌}
+use Rattle.std.specs.Prelude.{ℕ, zero, suc, ◌+◌, ◌*◌, ◌≤◌, ◌<◌, ◌≡◌, Bool, true, false, List, [], ◌∷◌, ◌++◌, map, eqb, drop, get_or, length, replicate, take, if◌then◌else◌}
 use Rattle.base.specs.Reordered.{Inserted, Reordered, SameCounts, how_many}
 use Rattle.base.specs.Sum.{sum_of}
 use Rattle.base.proofs.Reordered.{Between}

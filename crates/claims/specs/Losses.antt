@@ -7,8 +7,7 @@
 -- list holds; hadlephoga/proofs/Reported has each figure in its place there. "Whoever uses an item's value ..": a value is made as part of a `Valuation` and of nothing else (valuation/src/protection), an outcome holds and
 -- hands on the whole of it, and so do reports and lent lists; only where values are summed, for E*, or cover, is the value taken out of it. That
 -- betterments never raise the weighted amount is demand 3 (claims/specs/Demand3), which speaks of weighted amounts alone and stands as it was.
-use Rattle.std.specs.Prelude.{ℕ, ◌+◌, ◌*◌, ◌/◌, ◌≤◌, min, ◌≡◌, ◌≢◌, false, List, [], ◌∷◌, map, eqb, take}
-use Rattle.base.specs.Choice.{if◌then◌else◌}
+use Rattle.std.specs.Prelude.{ℕ, ◌+◌, ◌*◌, ◌/◌, ◌≤◌, min, ◌≡◌, ◌≢◌, false, List, [], ◌∷◌, map, eqb, take, if◌then◌else◌}
 use Rattle.base.specs.Places.{in_places}
 use Rattle.tables.specs.Table.{Table}
 use Rattle.scaling.specs.Period.{guarantee_period}

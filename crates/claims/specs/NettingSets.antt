@@ -13,8 +13,7 @@
 -- for every set whatever. That of `hadlephoga::hadlephoga_net_set` is over `netting_reply`: a set's numbers in their order are answered as the set (`sent_answered`
 -- of that crate), and a list of any other length is 11 (`other_length`). What the tables of an edition weigh is in the claims SovereignFloor and Tables2023; lives
 -- go up to 100,000 days by L11.
-use Rattle.std.specs.Prelude.{ℕ, suc, ◌+◌, ◌*◌, ◌-◌, ◌≤◌, ◌<◌, min, ◌≡◌, Bool, true, false, not, ◌&&◌, ◌||◌, List, [], ◌∷◌, ◌++◌, map, ◌⊎◌, eqb, leb, get_or, length, replicate, take}
-use Rattle.base.specs.Choice.{if◌then◌else◌}
+use Rattle.std.specs.Prelude.{ℕ, suc, ◌+◌, ◌*◌, ◌-◌, ◌≤◌, ◌<◌, min, ◌≡◌, Bool, true, false, not, ◌&&◌, ◌||◌, List, [], ◌∷◌, ◌++◌, map, ◌⊎◌, eqb, leb, get_or, length, replicate, take, if◌then◌else◌}
 use Rattle.base.specs.FirstMet.{ExactFor, Test, ◌when◌}
 use Rattle.base.specs.Range.{within}
 use Rattle.base.specs.Rounding.{round_up}

@@ -6,8 +6,7 @@
 -- touch (the figures of 2019, lines, the tests of items, values, losses, grounds, cover, rounding) is today's definition on both sides, and is not compared;
 -- so are lines S and swaps, which came later (02: L1; claims/specs/CreditDerivatives).
 -- "Prove the betterment rule from what any such table must have, and show each table has it" is in claims/specs/Demand3.
-use Rattle.std.specs.Prelude.{ℕ, ◌≤◌, max, ◌⊎◌, ◌≡◌, true, false, ◌&&◌, ◌||◌, List, [], ◌∷◌, ◌++◌, map, eqb, length, replicate}
-use Rattle.base.specs.Choice.{if◌then◌else◌}
+use Rattle.std.specs.Prelude.{ℕ, ◌≤◌, max, ◌⊎◌, ◌≡◌, true, false, ◌&&◌, ◌||◌, List, [], ◌∷◌, ◌++◌, map, eqb, length, replicate, if◌then◌else◌}
 use Rattle.tables.specs.Classes.{bank, bank_or_securities_firm, corporate, other_entity, retail, sovereign}
 use Rattle.tables.specs.Eligibility.{eligible}
 use Rattle.tables.specs.Goods.{bank_debt, cash, gold, main_index_equity, other_debt, other_listed_equity, securitisation, sovereign_debt}

@@ -1,4 +1,5 @@
 -- What covers before a piece, summed piece by piece. Assumes nothing.
+use Rattle.std.proofs.Common.{if◌then◌else◌}
 use Prim.Native.Nat.{ℕ, suc, ◌+◌, ◌≤◌, ◌<◌}
 use mathlib.Core.Path.{◌≡◌, refl}
 use mathlib.Core.Bool.{Bool, true, false}
@@ -9,7 +10,6 @@ use lib.Dec.{ltb}
 use lib.ListN.{length, take, get_or, length-take}
 use lib.Seq.{take_all, get_or-take}
 use borrow.Author.Tests.{lt-ltb, le-ltb}
-use Rattle.base.specs.Choice.{if◌then◌else◌}
 use Rattle.base.specs.Sum.{sum_of}
 use Rattle.base.proofs.Choice.{either, if_true, if_false}
 use Rattle.base.proofs.Sum.{sum_take}

@@ -6,7 +6,6 @@ use mathlib.Core.Logic.{⊎_elim, ◌≢◌}
 use native.Mathlib.Decide.{ℕ_discrete}
 use native.Mathlib.Omega.{arith}
 use borrow.Author.Tests.{lt-ltb, le-ltb, eq-eqb, ne_eqb}
-use Rattle.base.specs.Choice.{if◌then◌else◌}
 use Rattle.base.specs.Sum.{sum_of}
 use Rattle.base.proofs.Compare.{side}
 use Rattle.base.proofs.Sum.{sum_append}
@@ -17,22 +16,22 @@ use Rattle.cover.specs.declared.protection.Protection.{Protection}
 
 module _ (w : ℕ) (p : Protection) where
   pub lower_weighted_in : p.weight < w → lower_weighted w p ≡ p.value
-  unfolding lower_weighted if◌then◌else◌
+  unfolding lower_weighted
   lower_weighted_in h = rw (lt-ltb p.weight w h)
 
   pub lower_weighted_out : w ≤ p.weight → lower_weighted w p ≡ 0
-  unfolding lower_weighted if◌then◌else◌
+  unfolding lower_weighted
   lower_weighted_out h = rw (le-ltb p.weight w h)
 
   pub lower_weighted_le : lower_weighted w p ≤ p.value
   lower_weighted_le = ⊎_elim (λ h. omega (arith, lower_weighted_in h)) (λ h. omega (arith, lower_weighted_out h)) (side p.weight w)
 
   pub equal_in : p.weight ≡ w → equal w p ≡ p.value
-  unfolding equal if◌then◌else◌
+  unfolding equal
   equal_in h = rw (eq-eqb p.weight w h)
 
   pub equal_out : p.weight ≢ w → equal w p ≡ 0
-  unfolding equal if◌then◌else◌
+  unfolding equal
   equal_out h = rw (ne_eqb p.weight w h)
 
 -- what weighs at most w weighs less, or as much

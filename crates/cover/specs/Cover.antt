@@ -1,6 +1,5 @@
 -- Guarantees that cover an exposure E, which is the paper's E*. 01: From items to the weighted amount, 4 and 5; CRE22.90, CRE22.91(1)
-use Rattle.std.specs.Prelude.{ℕ, ◌+◌, ◌*◌, ◌-◌, min, List, [], ◌∷◌, ◌++◌, map, ltb, eqb}
-use Rattle.base.specs.Choice.{if◌then◌else◌}
+use Rattle.std.specs.Prelude.{ℕ, ◌+◌, ◌*◌, ◌-◌, min, List, [], ◌∷◌, ◌++◌, map, ltb, eqb, if◌then◌else◌}
 use Rattle.base.specs.Places.{in_places}
 use Rattle.base.specs.Sum.{sum_of}
 use Rattle.cover.specs.declared.protection.Protection.{Protection}

@@ -1,7 +1,6 @@
 // What covers before a piece of protection: the lower-weighted pieces, and the earlier ones of its weight.
-ghost use Rattle.std.specs.Prelude.{true, ◌≡◌, ◌+◌, ◌≤◌, take};
+ghost use Rattle.std.specs.Prelude.{true, ◌≡◌, ◌+◌, ◌≤◌, take, if◌then◌else◌};
 ghost use Rattle.base.specs.All.{all_pass};
-ghost use Rattle.base.specs.Choice.{if◌then◌else◌};
 ghost use Rattle.cover.specs.Cover.{lower_weighted, equal, before};
 ghost use Rattle.cover.specs.Limits.{within_limits};
 

@@ -1,4 +1,5 @@
 -- The portions are those of one pass over the pieces in rising order of weight, equal weights in order of adding. Assumes nothing.
+use Rattle.std.proofs.Common.{if◌then◌else◌}
 use Prim.Native.Nat.{ℕ, suc, ◌+◌, ◌-◌, ◌≤◌, min}
 use mathlib.Core.Path.{◌≡◌, refl, sym, ◌∙◌, ap, ap₂}
 use mathlib.Core.Bool.{Bool, true, false}
@@ -9,7 +10,6 @@ use native.Mathlib.Decide.{ℕ_discrete}
 use native.Mathlib.Omega.{arith}
 use lib.Dec.{leb, eqb}
 use borrow.Author.Tests.{leb-true, leb-false, eq-eqb, ne_eqb}
-use Rattle.base.specs.Choice.{if◌then◌else◌}
 use Rattle.base.specs.Sum.{sum_of}
 use Rattle.base.proofs.Choice.{if_true, if_false}
 use Rattle.cover.specs.Cover.{lower_weighted, before, portion, covered_after, covered}
@@ -21,7 +21,7 @@ use Rattle.cover.proofs.Portions.{piece}
 
 -- ---- the sort puts the weights in rising order, keeps the order of each weight, and so every sum
 each_insert : (P : Protection → Type 0) (p : Protection) (qs : List Protection) → P p → Each P qs → Each P (insert p qs)
-unfolding insert if◌then◌else◌
+unfolding insert
 each_insert P p [] h a = (h, tt)
 each_insert P p (q ∷ qs) h a = go (each_insert P p qs h a.1) (leb p.weight q.weight)
   where
@@ -34,7 +34,7 @@ each_heavier v w [] h a = tt
 each_heavier v w (p ∷ ps) h a = (omega (arith, a.0), each_heavier v w ps h a.1)
 
 rising_insert : (p : Protection) (qs : List Protection) → Rising qs → Rising (insert p qs)
-unfolding Rising insert if◌then◌else◌
+unfolding Rising insert
 rising_insert p [] r = (tt, tt)
 rising_insert p (q ∷ qs) r = go (rising_insert p qs r.1) (leb p.weight q.weight) refl
   where
@@ -72,7 +72,7 @@ weight_swap w p q ps n = go (ℕ_discrete p.weight w)
     go (no m) = weight_cons w q (p ∷ ps) ps (weight_out w p ps m) ∙ sym (weight_out w p (q ∷ ps) m)
 
 insert_keeps : (w : ℕ) (p : Protection) (qs : List Protection) → of_weight w (insert p qs) ≡ of_weight w (p ∷ qs)
-unfolding insert if◌then◌else◌
+unfolding insert
 insert_keeps w p [] = refl
 insert_keeps w p (q ∷ qs) = go (insert_keeps w p qs) (leb p.weight q.weight) refl
   where
@@ -89,7 +89,7 @@ sort_keeps w [] = refl
 sort_keeps w (p ∷ ps) = insert_keeps w p (sort ps) ∙ weight_cons w p (sort ps) ps (sort_keeps w ps)
 
 sum_insert : (f : Protection → ℕ) (p : Protection) (qs : List Protection) → sum_of f (insert p qs) ≡ f p + sum_of f qs
-unfolding sum_of insert if◌then◌else◌
+unfolding sum_of insert
 sum_insert f p [] = refl
 sum_insert f p (q ∷ qs) = go (sum_insert f p qs) (leb p.weight q.weight)
   where
@@ -144,7 +144,7 @@ module _ (E : ℕ) (all : List Protection) where
 
   insert_covered : (earlier : List Protection) (p : Protection) (qs : List Protection) →
       insert (piece E all earlier p) (covered_after E all (earlier ++ p ∷ []) qs) ≡ covered_after E all earlier (insert p qs)
-  unfolding insert covered_after if◌then◌else◌
+  unfolding insert covered_after
   insert_covered earlier p [] = refl
   insert_covered earlier p (q ∷ qs) =
       go (leb p.weight q.weight) refl

@@ -2,7 +2,6 @@
 use Prim.Native.Nat.{ℕ, ◌+◌, ◌*◌, ◌-◌}
 use mathlib.Core.Path.{◌≡◌, refl}
 use mathlib.Core.List.{List, [], ◌∷◌}
-use Rattle.base.specs.Choice.{if◌then◌else◌}
 use Rattle.base.specs.Rounding.{round_up}
 use Rattle.base.specs.Sum.{sum_of}
 use Rattle.cover.specs.Cover.{before, covered, covered_after, equal, lower_weighted, portion, uncovered, weighted_sum}
@@ -48,18 +47,18 @@ unfolding sum_of pass
 at_first_weight = refl
 
 rounded_each_lem : rounded_each 100 2 small_first ∷ rounded_each 100 2 large_first ∷ [] ≡ 2 ∷ 1 ∷ []
-unfolding sum_of round_up covered covered_after portion before lower_weighted equal if◌then◌else◌ uncovered
+unfolding sum_of round_up covered covered_after portion before lower_weighted equal uncovered
 rounded_each_lem = refl
 
 -- the rule does not
 by_the_rule :
     weighted_sum 100 100 heavy_first ∷ weighted_sum 100 100 light_first ∷ weighted_sum 100 200 heavy_first ∷ weighted_sum 100 200 light_first ∷ weighted_sum 100 2 small_first ∷ weighted_sum 100 2 large_first ∷ []
     ≡ 800 ∷ 800 ∷ 7600 ∷ 7600 ∷ 100 ∷ 100 ∷ []
-unfolding weighted_sum sum_of covered covered_after portion before lower_weighted equal if◌then◌else◌ uncovered
+unfolding weighted_sum sum_of covered covered_after portion before lower_weighted equal uncovered
 by_the_rule = refl
 
 pub worked_by_hand :
     sum_by_hand 100 100 heavy_first ∷ sum_by_hand 100 100 light_first ∷ sum_by_hand 100 200 heavy_first ∷ sum_by_hand 100 200 light_first ∷ sum_by_hand 100 2 small_first ∷ sum_by_hand 100 2 large_first ∷ []
     ≡ 800 ∷ 800 ∷ 7600 ∷ 7600 ∷ 100 ∷ 100 ∷ []
-unfolding sum_by_hand sum_of pass sort insert if◌then◌else◌ round_up
+unfolding sum_by_hand sum_of pass sort insert round_up
 worked_by_hand = refl

@@ -1,6 +1,5 @@
 -- Cover as one would do it by hand: sort, then pass along. `in_rising_order` proves that `covered`, sorted, is this.
-use Rattle.std.specs.Prelude.{ℕ, ◌-◌, ◌≤◌, min, List, [], ◌∷◌, leb, eqb}
-use Rattle.base.specs.Choice.{if◌then◌else◌}
+use Rattle.std.specs.Prelude.{ℕ, ◌-◌, ◌≤◌, min, List, [], ◌∷◌, leb, eqb, if◌then◌else◌}
 use Rattle.base.specs.Each.{Each}
 use Rattle.cover.specs.declared.protection.Protection.{Protection}
 

@@ -4,7 +4,6 @@ use mathlib.Core.Path.{◌≡◌, refl}
 use mathlib.Core.Bool.{Bool, true, false, not}
 use mathlib.Core.List.{List, [], ◌∷◌, ◌++◌, map}
 use lib.ListN.{replicate}
-use Rattle.base.specs.Choice.{if◌then◌else◌}
 use Rattle.base.specs.FirstMet.{first_or}
 use Rattle.base.specs.Range.{within}
 use Rattle.deal.specs.Parties.{party_step_allowed, party_steps_allowed, sovereign_step_allowed}
@@ -77,12 +76,12 @@ opened =
     ∷ []
 
 opened_edges : opened ≡ 0 ∷ 3 ∷ 0 ∷ 0 ∷ 1 ∷ 1 ∷ 2 ∷ 3 ∷ 4 ∷ 5 ∷ 3 ∷ 3 ∷ []
-unfolding terms_refusal terms_tests first_or within party_step_allowed sovereign_step_allowed party_steps_allowed asset_step_allowed life_allowed if◌then◌else◌
+unfolding terms_refusal terms_tests first_or within party_step_allowed sovereign_step_allowed party_steps_allowed asset_step_allowed life_allowed
 opened_edges = refl
 
 -- the record of zeros that stands beside a refusal: 0 is no class
 pub zero_refused : terms_refusal (zero_terms) ≡ 2
-unfolding terms_refusal terms_tests first_or within party_step_allowed sovereign_step_allowed party_steps_allowed asset_step_allowed life_allowed if◌then◌else◌
+unfolding terms_refusal terms_tests first_or within party_step_allowed sovereign_step_allowed party_steps_allowed asset_step_allowed life_allowed
 zero_refused = refl
 
 -- sovereign debt in the deal's currency
@@ -128,7 +127,7 @@ added =
     ∷ []
 
 added_edges : added ≡ 0 ∷ 0 ∷ 0 ∷ 7 ∷ 8 ∷ 3 ∷ 2 ∷ 7 ∷ 8 ∷ []
-unfolding collateral_refusal collateral_tests guarantee_refusal guarantee_tests first_or within party_step_allowed sovereign_step_allowed party_steps_allowed asset_step_allowed life_allowed if◌then◌else◌
+unfolding collateral_refusal collateral_tests guarantee_refusal guarantee_tests first_or within party_step_allowed sovereign_step_allowed party_steps_allowed asset_step_allowed life_allowed
 added_edges = refl
 
 -- a deal at this step of its counterparty, with so many places of its list of collateral counted, each filled alike
@@ -152,7 +151,7 @@ whole =
     ∷ []
 
 whole_edges : whole ≡ 0 ∷ 6 ∷ 40 ∷ 40 ∷ 40 ∷ 0 ∷ []
-unfolding add_collateral_refusal add_collateral_tests record_allowed collateral_list_tests collateral_list_allowed guarantee_list_allowed terms_refusal terms_tests collateral_refusal collateral_tests guarantee_refusal guarantee_tests first_or within party_step_allowed sovereign_step_allowed party_steps_allowed asset_step_allowed life_allowed if◌then◌else◌
+unfolding add_collateral_refusal add_collateral_tests record_allowed collateral_list_tests collateral_list_allowed guarantee_list_allowed terms_refusal terms_tests collateral_refusal collateral_tests guarantee_refusal guarantee_tests first_or within party_step_allowed sovereign_step_allowed party_steps_allowed asset_step_allowed life_allowed
 whole_edges = refl
 
 -- every type with issue life 0 and 360, at step 0 and 1; kinds; the ends of the ranges
@@ -177,7 +176,7 @@ goods_edges : map (lent_as 0 0) types ∷ map (lent_as 0 360) types ∷ map (len
     ∷ (5 ∷ 0 ∷ 0 ∷ 5 ∷ [])
     ∷ (5 ∷ 0 ∷ 0 ∷ 5 ∷ [])
     ∷ (4 ∷ 0 ∷ 0 ∷ 4 ∷ []) ∷ []
-unfolding terms_refusal terms_tests first_or within party_step_allowed sovereign_step_allowed party_steps_allowed asset_step_allowed life_allowed if◌then◌else◌
+unfolding terms_refusal terms_tests first_or within party_step_allowed sovereign_step_allowed party_steps_allowed asset_step_allowed life_allowed
 goods_edges = refl
 
 -- items with every fault, and one less each time; issue lives; the longest terms
@@ -208,7 +207,7 @@ items_in_order :
     ∷ backing (5 ∷ 3 ∷ 6 ∷ 0 ∷ 999 ∷ 100000 ∷ 100000 ∷ 1 ∷ 1 ∷ 1 ∷ [])
     ∷ []
     ≡ 1 ∷ 2 ∷ 3 ∷ 4 ∷ 5 ∷ 7 ∷ 8 ∷ 0 ∷ 5 ∷ 5 ∷ 1 ∷ 2 ∷ 3 ∷ 4 ∷ 5 ∷ 7 ∷ 8 ∷ 0 ∷ []
-unfolding collateral_refusal collateral_tests guarantee_refusal guarantee_tests first_or within party_step_allowed sovereign_step_allowed party_steps_allowed asset_step_allowed life_allowed if◌then◌else◌
+unfolding collateral_refusal collateral_tests guarantee_refusal guarantee_tests first_or within party_step_allowed sovereign_step_allowed party_steps_allowed asset_step_allowed life_allowed
 items_in_order = refl
 
 -- "For lives and terms 5 now begins above 100,000" (02: L11), in each field that holds days: the term of a deal and the life of what it
@@ -227,7 +226,7 @@ days_edges :
     ∷ (λ n. backing (5 ∷ 3 ∷ 6 ∷ 0 ∷ 978 ∷ 1 ∷ n ∷ 1 ∷ 1 ∷ 1 ∷ []))
     ∷ [])
     ≡ replicate 7 (5 ∷ 0 ∷ 0 ∷ 0 ∷ 0 ∷ 0 ∷ 0 ∷ 5 ∷ 5 ∷ 5 ∷ [])
-unfolding terms_refusal terms_tests collateral_refusal collateral_tests guarantee_refusal guarantee_tests first_or within party_step_allowed sovereign_step_allowed party_steps_allowed asset_step_allowed life_allowed if◌then◌else◌
+unfolding terms_refusal terms_tests collateral_refusal collateral_tests guarantee_refusal guarantee_tests first_or within party_step_allowed sovereign_step_allowed party_steps_allowed asset_step_allowed life_allowed
 days_edges = refl
 
 -- fifteen, sixteen, seventeen guarantees
@@ -245,13 +244,13 @@ whole_guarantees :
     ∷ add_guarantee_refusal (guaranteed 1 (given 5 1 361 360 1)) (given 5 1 360 360 1)
     ∷ add_guarantee_refusal (guaranteed 0 (given 5 1 361 360 1)) (given 5 1 360 360 1)
     ∷ [] ≡ 0 ∷ 6 ∷ 40 ∷ 40 ∷ 0 ∷ []
-unfolding add_guarantee_refusal add_guarantee_tests record_allowed guarantee_list_tests collateral_list_allowed guarantee_list_allowed terms_refusal terms_tests collateral_refusal collateral_tests guarantee_refusal guarantee_tests first_or within party_step_allowed sovereign_step_allowed party_steps_allowed asset_step_allowed life_allowed if◌then◌else◌
+unfolding add_guarantee_refusal add_guarantee_tests record_allowed guarantee_list_tests collateral_list_allowed guarantee_list_allowed terms_refusal terms_tests collateral_refusal collateral_tests guarantee_refusal guarantee_tests first_or within party_step_allowed sovereign_step_allowed party_steps_allowed asset_step_allowed life_allowed
 whole_guarantees = refl
 
 -- zeros are zeros; beside a refusal nothing of the terms stays; two of each go behind each other
 zeros : (zero_collateral ≡ collateral_in (replicate 11 0)) × ((zero_guarantee ≡ guarantee_in (replicate 10 0))
     × (opened_deal (terms_in (500 ∷ 2 ∷ 7 ∷ 0 ∷ 840 ∷ 1 ∷ 1 ∷ 30 ∷ 1 ∷ 0 ∷ 0 ∷ 1 ∷ [])) ≡ deal_with (terms_in (replicate 12 0)) [] []))
-unfolding opened_deal terms_refusal terms_tests first_or within party_step_allowed sovereign_step_allowed party_steps_allowed asset_step_allowed life_allowed if◌then◌else◌
+unfolding opened_deal terms_refusal terms_tests first_or within party_step_allowed sovereign_step_allowed party_steps_allowed asset_step_allowed life_allowed
 zeros = (refl, (refl, refl))
 
 added_behind :
@@ -259,7 +258,7 @@ added_behind :
     let c : ℕ → Collateral = λ n. pledge n 1 360 360 1 in
     let g : ℕ → Guarantee = λ n. given n 1 360 360 1 in
     with_guarantee (with_guarantee (with_collateral (with_collateral (opened_deal loan) (c 1)) (c 2)) (g 3)) (g 4) ≡ deal_with loan (c 1 ∷ c 2 ∷ []) (g 3 ∷ g 4 ∷ []))
-unfolding opened_deal with_collateral with_guarantee add_collateral_refusal add_collateral_tests add_guarantee_refusal add_guarantee_tests record_allowed collateral_list_tests guarantee_list_tests collateral_list_allowed guarantee_list_allowed terms_refusal terms_tests collateral_refusal collateral_tests guarantee_refusal guarantee_tests first_or within party_step_allowed sovereign_step_allowed party_steps_allowed asset_step_allowed life_allowed if◌then◌else◌
+unfolding opened_deal with_collateral with_guarantee add_collateral_refusal add_collateral_tests add_guarantee_refusal add_guarantee_tests record_allowed collateral_list_tests guarantee_list_tests collateral_list_allowed guarantee_list_allowed terms_refusal terms_tests collateral_refusal collateral_tests guarantee_refusal guarantee_tests first_or within party_step_allowed sovereign_step_allowed party_steps_allowed asset_step_allowed life_allowed
 added_behind = refl
 
 -- the life of every type up to either limit, and lives that a narrower number would cut: none outside types 2 to 6, however long
@@ -271,7 +270,7 @@ lives_of_types :
     ≡ (map not debt_alone ∷ debt_alone ∷ debt_alone ∷ replicate 6 (replicate 11 false))
     ∷ (map not debt_alone ∷ replicate 5 debt_alone ++ replicate 3 (replicate 11 false))
     ∷ []
-unfolding within life_allowed if◌then◌else◌
+unfolding within life_allowed
 lives_of_types = refl
 
 -- the same of pledges, where the refusal stands
@@ -282,14 +281,14 @@ pledges_of_types :
     ∷ (2 ∷ 5 ∷ 0 ∷ 0 ∷ 0 ∷ 0 ∷ 0 ∷ 5 ∷ 5 ∷ 5 ∷ 2 ∷ [])
     ∷ (2 ∷ 5 ∷ 5 ∷ 5 ∷ 5 ∷ 5 ∷ 5 ∷ 5 ∷ 5 ∷ 5 ∷ 2 ∷ [])
     ∷ []
-unfolding collateral_refusal collateral_tests first_or within asset_step_allowed life_allowed if◌then◌else◌
+unfolding collateral_refusal collateral_tests first_or within asset_step_allowed life_allowed
 pledges_of_types = refl
 
 -- 7 above 36,000
 long_terms_in_order :
     map (λ n. item (5 ∷ 1 ∷ 0 ∷ 0 ∷ 978 ∷ n ∷ 70000 ∷ 1 ∷ 1 ∷ 1 ∷ 1 ∷ []) ∷ backing (5 ∷ 3 ∷ 6 ∷ 0 ∷ 978 ∷ n ∷ 70000 ∷ 1 ∷ 1 ∷ 1 ∷ []) ∷ []) (1 ∷ 70000 ∷ 70001 ∷ 100000 ∷ [])
     ≡ (0 ∷ 0 ∷ []) ∷ (0 ∷ 0 ∷ []) ∷ (7 ∷ 7 ∷ []) ∷ (7 ∷ 7 ∷ []) ∷ []
-unfolding collateral_refusal collateral_tests guarantee_refusal guarantee_tests first_or within party_step_allowed sovereign_step_allowed party_steps_allowed asset_step_allowed life_allowed if◌then◌else◌
+unfolding collateral_refusal collateral_tests guarantee_refusal guarantee_tests first_or within party_step_allowed sovereign_step_allowed party_steps_allowed asset_step_allowed life_allowed
 long_terms_in_order = refl
 
 -- THE SOVEREIGN'S STEP AND THE EDITION. 02: L5
@@ -303,7 +302,7 @@ sovereign_steps :
     ≡ replicate 2 (replicate 8 2 ∷ (0 ∷ replicate 7 3) ∷ (replicate 7 0 ++ 3 ∷ []) ∷ (replicate 7 0 ++ 3 ∷ []) ∷ (0 ∷ replicate 7 3) ∷ replicate 8 2 ∷ []))
     × (map (λ c. map (λ s. backing (5 ∷ c ∷ 0 ∷ s ∷ 978 ∷ 1 ∷ 1 ∷ 1 ∷ 1 ∷ 1 ∷ [])) steps) (0 ∷ 1 ∷ 2 ∷ 3 ∷ 4 ∷ [])
     ≡ replicate 8 2 ∷ (0 ∷ replicate 7 3) ∷ (replicate 7 0 ++ 3 ∷ []) ∷ (replicate 7 0 ++ 3 ∷ []) ∷ replicate 8 2 ∷ [])
-unfolding terms_refusal terms_tests guarantee_refusal guarantee_tests first_or within party_step_allowed sovereign_step_allowed party_steps_allowed asset_step_allowed life_allowed if◌then◌else◌
+unfolding terms_refusal terms_tests guarantee_refusal guarantee_tests first_or within party_step_allowed sovereign_step_allowed party_steps_allowed asset_step_allowed life_allowed
 sovereign_steps = (refl, refl)
 
 -- whether the party is rated or not
@@ -312,7 +311,7 @@ rated_sovereign_steps :
     ≡ replicate 6 ((0 ∷ replicate 7 3) ∷ replicate 2 (replicate 7 0 ++ 3 ∷ [])))
     × (map (λ step. map (λ c. map (λ s. backing (5 ∷ c ∷ step ∷ s ∷ 978 ∷ 1 ∷ 1 ∷ 1 ∷ 1 ∷ 1 ∷ [])) steps) (1 ∷ 2 ∷ 3 ∷ [])) (1 ∷ 2 ∷ 3 ∷ 4 ∷ 5 ∷ 6 ∷ [])
     ≡ replicate 6 ((0 ∷ replicate 7 3) ∷ replicate 2 (replicate 7 0 ++ 3 ∷ [])))
-unfolding terms_refusal terms_tests guarantee_refusal guarantee_tests first_or within party_step_allowed sovereign_step_allowed party_steps_allowed asset_step_allowed life_allowed if◌then◌else◌
+unfolding terms_refusal terms_tests guarantee_refusal guarantee_tests first_or within party_step_allowed sovereign_step_allowed party_steps_allowed asset_step_allowed life_allowed
 rated_sovereign_steps = (refl, refl)
 
 -- an unknown edition is 2: behind 1, before 3
@@ -322,7 +321,7 @@ editions :
     ∷ map (λ e. terms_refusal (terms_in (500 ∷ 2 ∷ 0 ∷ 7 ∷ 0 ∷ 3 ∷ 1 ∷ 1800 ∷ 1 ∷ 0 ∷ 0 ∷ e ∷ []))) (0 ∷ 1 ∷ [])
     ∷ []
     ≡ (2 ∷ 0 ∷ 0 ∷ 0 ∷ 2 ∷ 2 ∷ 2 ∷ 2 ∷ []) ∷ (1 ∷ 1 ∷ []) ∷ (2 ∷ 3 ∷ []) ∷ []
-unfolding terms_refusal terms_tests first_or within party_step_allowed sovereign_step_allowed party_steps_allowed asset_step_allowed life_allowed if◌then◌else◌
+unfolding terms_refusal terms_tests first_or within party_step_allowed sovereign_step_allowed party_steps_allowed asset_step_allowed life_allowed
 editions = refl
 
 -- in a record an unknown edition, or a wrong step of a sovereign in a counted place, is 40; past the count it is not tested
@@ -336,5 +335,5 @@ records :
     ∷ guaranteed 0 (guarantee_in (5 ∷ 1 ∷ 0 ∷ 1 ∷ 978 ∷ 1 ∷ 1 ∷ 1 ∷ 1 ∷ 1 ∷ []))
     ∷ [])
     ≡ 0 ∷ 0 ∷ 40 ∷ 40 ∷ 40 ∷ 0 ∷ []
-unfolding add_collateral_refusal add_collateral_tests record_allowed collateral_list_tests collateral_list_allowed guarantee_list_allowed terms_refusal terms_tests collateral_refusal collateral_tests guarantee_refusal guarantee_tests first_or within party_step_allowed sovereign_step_allowed party_steps_allowed asset_step_allowed life_allowed if◌then◌else◌
+unfolding add_collateral_refusal add_collateral_tests record_allowed collateral_list_tests collateral_list_allowed guarantee_list_allowed terms_refusal terms_tests collateral_refusal collateral_tests guarantee_refusal guarantee_tests first_or within party_step_allowed sovereign_step_allowed party_steps_allowed asset_step_allowed life_allowed
 records = refl

@@ -1,4 +1,5 @@
 -- What is not refused, in plain inequalities: for sums and products to fit, and for the laws of the tables. Assumes nothing.
+use Rattle.std.proofs.Common.{if◌then◌else◌}
 use Prim.Native.Nat.{ℕ, ◌≤◌, ◌<◌}
 use mathlib.Core.Path.{◌≡◌, refl}
 use mathlib.Core.Bool.{Bool, true, false, ◌&&◌, ◌||◌}
@@ -6,7 +7,6 @@ use native.Mathlib.Omega.{arith}
 use lib.Dec.{leb, eqb}
 use lib.ListN.{length, get_or}
 use borrow.Author.Tests.{leb-true, eqb-true, not-false as held}
-use Rattle.base.specs.Choice.{if◌then◌else◌}
 use Rattle.base.proofs.Every.{both}
 use Rattle.base.proofs.FirstMet.{none_exactly}
 use Rattle.base.proofs.Range.{bounds}
@@ -71,7 +71,7 @@ pub record PlainGuarantee (g : Guarantee) : Type 0 where
 
 -- a step is 0 or at most 6, whatever the class or type
 party_step : (p : Party) → party_step_allowed p ≡ true → p.step ≤ 6
-unfolding party_step_allowed if◌then◌else◌
+unfolding party_step_allowed
 party_step p e = go (eqb p.class 4) e
   where
     go : (b : Bool) → (if b then eqb p.step 0 else leb p.step 6) ≡ true → p.step ≤ 6
@@ -79,7 +79,7 @@ party_step p e = go (eqb p.class 4) e
     go false h = leb-true p.step 6 h
 
 sovereign_step_lem : (p : Party) → sovereign_step_allowed p ≡ true → p.sovereign_step ≤ 6
-unfolding sovereign_step_allowed if◌then◌else◌
+unfolding sovereign_step_allowed
 sovereign_step_lem p e = go (eqb p.class 1 || eqb p.class 4) e
   where
     go : (b : Bool) → (if b then eqb p.sovereign_step 0 else leb p.sovereign_step 6) ≡ true → p.sovereign_step ≤ 6
@@ -92,7 +92,7 @@ unfolding party_steps_allowed
 party_steps p e = let b = both (party_step_allowed p) _ e in (party_step p b.0, sovereign_step_lem p b.1)
 
 pub asset_step : (a : Asset) → asset_step_allowed a ≡ true → a.step ≤ 6
-unfolding asset_step_allowed if◌then◌else◌
+unfolding asset_step_allowed
 asset_step a e = go (is_debt a.goods) e
   where
     go : (b : Bool) → (if b then leb a.step 6 else eqb a.step 0) ≡ true → a.step ≤ 6

@@ -4,7 +4,6 @@ use mathlib.Core.Path.{◌≡◌, refl}
 use mathlib.Core.Bool.{true, false}
 use mathlib.Core.List.{List, [], ◌∷◌, ◌++◌, map}
 use lib.ListN.{replicate}
-use Rattle.base.specs.Choice.{if◌then◌else◌}
 use Rattle.base.specs.FirstMet.{first_or}
 use Rattle.base.specs.Range.{within}
 use Rattle.deal.specs.Adding.{add_guarantee_refusal, add_guarantee_tests, add_swap_refusal, with_guarantee, with_swap}
@@ -60,14 +59,14 @@ swap_in_order :
     ∷ swap (5 ∷ 3 ∷ 6 ∷ 0 ∷ 999 ∷ 100000 ∷ 100000 ∷ 1 ∷ 1 ∷ 2 ∷ 1 ∷ [])
     ∷ []
     ≡ 1 ∷ 2 ∷ 3 ∷ 3 ∷ 4 ∷ 5 ∷ 7 ∷ 8 ∷ 8 ∷ 8 ∷ []
-unfolding guarantee_refusal guarantee_tests first_or within party_step_allowed sovereign_step_allowed party_steps_allowed if◌then◌else◌
+unfolding guarantee_refusal guarantee_tests first_or within party_step_allowed sovereign_step_allowed party_steps_allowed
 swap_in_order = refl
 
 -- by the entry of its own condition, whether the others are met or not
 restructuring_entries :
     (map (λ r. swap (5 ∷ 3 ∷ 6 ∷ 0 ∷ 999 ∷ 1 ∷ 1 ∷ 1 ∷ 1 ∷ 1 ∷ r ∷ [])) (0 ∷ 1 ∷ 2 ∷ 3 ∷ 256 ∷ 9999999999999 ∷ 18446744073709551615 ∷ []) ≡ 0 ∷ 0 ∷ 8 ∷ 8 ∷ 8 ∷ 8 ∷ 8 ∷ [])
     × (map (λ r. swap (5 ∷ 3 ∷ 6 ∷ 0 ∷ 999 ∷ 1 ∷ 1 ∷ 0 ∷ 0 ∷ 0 ∷ r ∷ [])) (0 ∷ 1 ∷ 2 ∷ []) ≡ 0 ∷ 0 ∷ 8 ∷ [])
-unfolding guarantee_refusal guarantee_tests first_or within party_step_allowed sovereign_step_allowed party_steps_allowed if◌then◌else◌
+unfolding guarantee_refusal guarantee_tests first_or within party_step_allowed sovereign_step_allowed party_steps_allowed
 restructuring_entries = (refl, refl)
 
 -- one list of sixteen, in order of arrival: a swap, a guarantee, a swap; a refused one leaves the deal as it was
@@ -83,7 +82,7 @@ held amount instrument = guarantee_in (amount ∷ 1 ∷ 1 ∷ 0 ∷ 978 ∷ 1800
 one_order :
     with_swap (with_swap (with_guarantee (with_swap (opened_deal loan) 0 (given 1)) (given 2)) 1 (given 3)) 2 (given 4)
     ≡ deal_with loan [] (held 1 1 ∷ held 2 0 ∷ held 3 2 ∷ [])
-unfolding opened_deal with_guarantee add_guarantee_refusal add_guarantee_tests record_allowed guarantee_list_tests collateral_list_allowed guarantee_list_allowed terms_refusal terms_tests guarantee_refusal guarantee_tests first_or within party_step_allowed sovereign_step_allowed party_steps_allowed asset_step_allowed life_allowed if◌then◌else◌
+unfolding opened_deal with_guarantee add_guarantee_refusal add_guarantee_tests record_allowed guarantee_list_tests collateral_list_allowed guarantee_list_allowed terms_refusal terms_tests guarantee_refusal guarantee_tests first_or within party_step_allowed sovereign_step_allowed party_steps_allowed asset_step_allowed life_allowed
 one_order = refl
 
 -- the seventeenth among both is 6, before its own fields; a record with an instrument that is none is 40, where it is counted
@@ -103,9 +102,9 @@ shared_list :
     ∷ add_swap_refusal (holding 16 3) 0 (given 5)
     ∷ []
     ≡ 0 ∷ 8 ∷ 6 ∷ 6 ∷ 40 ∷ 40 ∷ []
-unfolding opened_deal add_guarantee_refusal add_guarantee_tests record_allowed guarantee_list_tests collateral_list_allowed guarantee_list_allowed terms_refusal terms_tests guarantee_refusal guarantee_tests first_or within party_step_allowed sovereign_step_allowed party_steps_allowed asset_step_allowed life_allowed if◌then◌else◌
+unfolding opened_deal add_guarantee_refusal add_guarantee_tests record_allowed guarantee_list_tests collateral_list_allowed guarantee_list_allowed terms_refusal terms_tests guarantee_refusal guarantee_tests first_or within party_step_allowed sovereign_step_allowed party_steps_allowed asset_step_allowed life_allowed
 shared_list = refl
 
 accepted_by_instrument : map (λ k. accepted (holding 16 k)) (0 ∷ 1 ∷ 2 ∷ 3 ∷ 4 ∷ 256 ∷ []) ≡ true ∷ true ∷ true ∷ false ∷ false ∷ false ∷ []
-unfolding opened_deal accepted record_allowed collateral_list_allowed guarantee_list_allowed terms_refusal terms_tests guarantee_refusal guarantee_tests first_or within party_step_allowed sovereign_step_allowed party_steps_allowed asset_step_allowed life_allowed if◌then◌else◌
+unfolding opened_deal accepted record_allowed collateral_list_allowed guarantee_list_allowed terms_refusal terms_tests guarantee_refusal guarantee_tests first_or within party_step_allowed sovereign_step_allowed party_steps_allowed asset_step_allowed life_allowed
 accepted_by_instrument = refl

@@ -1,6 +1,5 @@
 -- Goods lent or pledged. 01: What a deal holds.
-use Rattle.std.specs.Prelude.{ℕ, Bool, eqb}
-use Rattle.base.specs.Choice.{if◌then◌else◌}
+use Rattle.std.specs.Prelude.{ℕ, Bool, eqb, if◌then◌else◌}
 use Rattle.base.specs.Range.{within}
 use Rattle.tables.specs.Goods.{cash, sovereign_debt, resecuritisation, gold}
 use Rattle.deal.specs.Ranges.{step_allowed, days_allowed}

@@ -1,7 +1,6 @@
 -- What the lists of a deal have in common, over the items and what refuses one. 01: What a deal holds; The four operations, Adding an item
-use Rattle.std.specs.Prelude.{ℕ, Bool, ◌&&◌, List, ◌∷◌, leb, eqb, take, set}
+use Rattle.std.specs.Prelude.{ℕ, Bool, ◌&&◌, List, ◌∷◌, leb, eqb, take, set, if◌then◌else◌}
 use Rattle.base.specs.All.{all_pass}
-use Rattle.base.specs.Choice.{if◌then◌else◌}
 use Rattle.base.specs.FirstMet.{Test, ◌when◌}
 
 -- "at most sixteen items of collateral and sixteen guarantees"

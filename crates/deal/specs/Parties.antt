@@ -1,6 +1,5 @@
 -- Counterparties and providers of guarantees. 01: What a deal holds; 02: L5.
-use Rattle.std.specs.Prelude.{Bool, ◌&&◌, ◌||◌, eqb}
-use Rattle.base.specs.Choice.{if◌then◌else◌}
+use Rattle.std.specs.Prelude.{Bool, ◌&&◌, ◌||◌, eqb, if◌then◌else◌}
 use Rattle.base.specs.Range.{within}
 use Rattle.tables.specs.Classes.{other_entity, retail, sovereign}
 use Rattle.deal.specs.Ranges.{step_allowed}

@@ -1,6 +1,5 @@
 // A rated party: the deal's counterparty, or the provider of a guarantee.
-ghost use Rattle.std.specs.Prelude.{◌≡◌};
-ghost use Rattle.base.specs.Choice.{if◌then◌else◌};
+ghost use Rattle.std.specs.Prelude.{◌≡◌, if◌then◌else◌};
 ghost use Rattle.deal.specs.Parties.{counterparty_known, party_step_allowed, party_steps_allowed, provider_known, sovereign_step_allowed};
 
 use crate::ranges::LAST_STEP;

@@ -1,5 +1,6 @@
 -- Two sets of rules that are alike for an edition, on what is accepted by the first of them, give the same answers to a deal and to a book of
 -- that edition: where each line passes a test, and of deals that such lines lead to. Assumes nothing.
+use Rattle.std.proofs.Common.{if◌then◌else◌}
 use Prim.Native.Nat.{ℕ, ◌+◌, ◌≤◌}
 use mathlib.Core.Path.{◌≡◌, refl, sym, ap, ◌∙◌}
 use mathlib.Core.Bool.{Bool, true, false}
@@ -8,7 +9,6 @@ use lib.Dec.{eqb, ltb}
 use lib.ListN.{length}
 use borrow.Author.Tests.{eqb-true, le-ltb}
 use Rattle.base.specs.All.{all_pass}
-use Rattle.base.specs.Choice.{if◌then◌else◌}
 use Rattle.base.specs.FirstMet.{first_or}
 use Rattle.base.specs.Writing.{overwrite}
 use Rattle.base.proofs.Choice.{either, if_false, if_true}
@@ -99,8 +99,8 @@ module _ (after before : Rules) (edition : ℕ) (fits : List ℕ → Bool) (Hold
             if_true _ _ _ h
             ∙ later (line_accepted after alike.apart d said a none) kept
             ∙ ap (λ x. lines_answer_by before opening (number + 1) x lines) (alike.added d a e line)
-            ∙ sym (if_true _ _ _ (rw same_refusal h))
-        go false h = if_false _ _ _ h ∙ ap (λ r. refused_at r number) (sym same_refusal) ∙ sym (if_false _ _ _ (rw same_refusal h))
+            ∙ sym (if_true (eqb (line_refusal_by before d said) 0) _ _ (rw same_refusal h))
+        go false h = if_false _ _ _ h ∙ ap (λ r. refused_at r number) (sym same_refusal) ∙ sym (if_false (eqb (line_refusal_by before d said) 0) _ _ (rw same_refusal h))
 
   lines_same : (opening number : ℕ) (d : Deal) (lines : List (List ℕ)) → accepted_by after d ≡ true → d.terms.edition ≡ edition → Holds d → all_pass lines fits ≡ true →
       lines_answer_by after opening number d lines ≡ lines_answer_by before opening number d lines
@@ -144,8 +144,8 @@ module _ (after before : Rules) (edition : ℕ) (fits : List ℕ → Bool) (Hold
           if_true _ _ _ h
           ∙ lines_same deal.number (deal.number + 1) opened deal.further (opening_accepted after line none) (opened_edition after edition line (alike.says deal.opening) none) (alike.opens deal.opening) fit.1
           ∙ ap (λ x. lines_answer_by before deal.number (deal.number + 1) x deal.further) (alike.opened deal.opening)
-          ∙ sym (if_true _ _ _ (rw same h))
-      go false h = if_false _ _ _ h ∙ ap (λ r. refused_at r deal.number) (sym same) ∙ sym (if_false _ _ _ (rw same h))
+          ∙ sym (if_true (eqb (opening_refusal_by before line) 0) _ _ (rw same h))
+      go false h = if_false _ _ _ h ∙ ap (λ r. refused_at r deal.number) (sym same) ∙ sym (if_false (eqb (opening_refusal_by before line) 0) _ _ (rw same h))
 
   answers_same : (serial : ℕ) (deals : List DealLines) → all_pass deals (λ deal. all_pass (deal.opening ∷ deal.further) fits) ≡ true →
       answers_by after edition serial deals ≡ answers_by before edition serial deals
@@ -179,7 +179,7 @@ module _
 
   -- wrong, it is refused, and no deal of it is answered
   wrong_refused : (n : ℕ) → is_wrong (before.heading (first_line book)) ≡ true → answered_deals_by before book n ≡ []
-  unfolding answered_deals_by book_refusal_by book_tests_by first_or if◌then◌else◌
+  unfolding answered_deals_by book_refusal_by book_tests_by first_or
   wrong_refused n e = rw e (either (λ (r : ℕ). (if eqb r 0 then deals_of book else []) ≡ []) (ltb book_limit (length book)) (λ h. refl) (λ h. refl))
 
   -- the deals that are answered are of lines of the book
@@ -216,5 +216,5 @@ module _
 
 -- a book whose first line a set of rules finds wrong is refused by 9, unless it is too long
 pub wrong_by_9 : (rules : Rules) (book : List ℕ) (n : ℕ) → is_wrong (rules.heading (first_line book)) ≡ true → length book ≤ book_limit → book_refusal_by rules book n ≡ 9
-unfolding book_refusal_by book_tests_by first_or if◌then◌else◌
+unfolding book_refusal_by book_tests_by first_or
 wrong_by_9 rules book n wrong h = rw (le-ltb book_limit (length book) h, wrong)

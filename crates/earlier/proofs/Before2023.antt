@@ -8,7 +8,6 @@ use native.Mathlib.Omega.{arith}
 use lib.Dec.{eqb, leb}
 use lib.ListN.{length}
 use borrow.Author.Tests.{eqb-false, leb-false, leb-true, le-leb, lt-leb, not-false as held}
-use Rattle.base.specs.Choice.{if◌then◌else◌}
 use Rattle.base.specs.Range.{within}
 use Rattle.base.proofs.Choice.{either, never, through}
 use Rattle.base.proofs.Every.{both}
@@ -203,7 +202,7 @@ deal_same edition n deal = alike_deal in_force before_2023 edition any_line AnyD
 
 module _ (book : List ℕ) (not_3 : same_bytes (first_line book) third_header ≡ false) where
   heading_same : heading_of (first_line book) ≡ heading_before_2023 (first_line book)
-  unfolding heading_of heading_before_2023 if◌then◌else◌
+  unfolding heading_of heading_before_2023
   heading_same = rw not_3
 
   headed : Other (edition_by before_2023 book)
@@ -226,7 +225,7 @@ module _ (book : List ℕ) (not_3 : same_bytes (first_line book) third_header �
 
 -- a book headed 3 was refused, by 9 if it was not too long
 third_wrong : is_wrong (heading_before_2023 third_header) ≡ true
-unfolding heading_before_2023 same_bytes starts_with if◌then◌else◌
+unfolding heading_before_2023 same_bytes starts_with
 third_wrong = refl
 
 pub was_refused : (book : List ℕ) (n : ℕ) → same_bytes (first_line book) third_header ≡ true → length book ≤ book_limit → book_refusal_by before_2023 book n ≡ 9

@@ -9,7 +9,6 @@ use lib.Dec.{eqb, leb}
 use lib.ListN.{length}
 use borrow.Author.Tests.{not-false as held}
 use Rattle.base.specs.All.{all_pass}
-use Rattle.base.specs.Choice.{if◌then◌else◌}
 use Rattle.base.specs.FirstMet.{◌when◌, first_met}
 use Rattle.base.specs.Range.{within}
 use Rattle.base.proofs.Choice.{either, if_true, never}
@@ -156,7 +155,7 @@ module _ (d : Deal) where
 -- REPORTING: the tables of the first edition are those of before
 
 pub first_table : table_of 1 ≡ table_before
-unfolding table_of counterparty_weight provider_weight at_least_sovereign has_floor if◌then◌else◌
+unfolding table_of counterparty_weight provider_weight at_least_sovereign has_floor
 first_table = refl
 
 -- a deal that is accepted, of the first edition
@@ -205,19 +204,19 @@ read_same f g h none = refl
 read_same f g h (some fields) = h fields
 
 deal_fields : (fields : List ℕ) → deal_line 1 fields ≡ DealLine (terms_before fields)
-unfolding deal_line with_sovereign if◌then◌else◌
+unfolding deal_line with_sovereign
 deal_fields fields = simp (put_at 3 fields)
 
 guarantee_fields_lem : (fields : List ℕ) → guarantee_line 1 fields ≡ GuaranteeLine (guarantee_before fields)
-unfolding guarantee_line with_sovereign if◌then◌else◌
+unfolding guarantee_line with_sovereign
 guarantee_fields_lem fields = simp (put_at 3 fields)
 
 swap_fields : (fields : List ℕ) → swap_line 1 fields ≡ GuaranteeLine (swap_before fields)
-unfolding swap_line with_sovereign if◌then◌else◌
+unfolding swap_line with_sovereign
 swap_fields fields = simp (put_at 3 fields)
 
 pub line_same : (line : List ℕ) → line_of 1 line ≡ line_before line
-unfolding line_of line_before width_under if◌then◌else◌
+unfolding line_of line_before width_under
 line_same [] = refl
 line_same (letter ∷ rest) =
     rw (
@@ -293,7 +292,7 @@ deal_same deal = alike_deal in_force before_floor 1 any_line AnyDeal alike deal 
 
 module _ (book : List ℕ) (not_2 : same_bytes (first_line book) second_header ≡ false) (not_3 : same_bytes (first_line book) third_header ≡ false) where
   heading_same : heading_of (first_line book) ≡ heading_before (first_line book)
-  unfolding heading_of heading_before if◌then◌else◌
+  unfolding heading_of heading_before
   heading_same = rw (not_2, not_3)
 
   -- unless it is wrong, it is headed 1
@@ -315,7 +314,7 @@ module _ (book : List ℕ) (not_2 : same_bytes (first_line book) second_header �
 
 -- a book headed 2 was refused, by 9 if it was not too long
 second_wrong : is_wrong (heading_before second_header) ≡ true
-unfolding heading_before same_bytes starts_with if◌then◌else◌
+unfolding heading_before same_bytes starts_with
 second_wrong = refl
 
 pub was_refused : (book : List ℕ) (n : ℕ) → same_bytes (first_line book) second_header ≡ true → length book ≤ book_limit → book_refusal_by before_floor book n ≡ 9

@@ -1,10 +1,10 @@
 -- A report without its losses is the report of before them. Assumes nothing.
+use Rattle.std.proofs.Common.{if◌then◌else◌}
 use Prim.Native.Nat.{ℕ, ◌-◌, min}
 use mathlib.Core.Path.{◌≡◌, refl, ap, ◌∙◌}
 use mathlib.Core.Bool.{Bool, true, false}
 use mathlib.Core.List.{List, [], ◌∷◌, map, map-map, zip_with}
 use lib.Dec.{eqb}
-use Rattle.base.specs.Choice.{if◌then◌else◌}
 use Rattle.base.specs.Places.{in_places}
 use Rattle.base.specs.Sum.{sum_of}
 use Rattle.base.proofs.Places.{map_places}
@@ -45,7 +45,7 @@ value_stays (Valued v) = refl
 value_stays (LeftOut ground' amount) = refl
 
 outcome_stays : (ground' amount : ℕ) (v : Valuation) → as_before (outcome_for ground' amount v) ≡ outcome_for_before ground' v.value
-unfolding outcome_for outcome_for_before as_before if◌then◌else◌
+unfolding outcome_for outcome_for_before as_before
 outcome_stays ground' amount v = go (eqb ground' 0)
   where
     go : (b : Bool) → as_before (if b then Valued v else LeftOut (ground_with ground') amount) ≡ (if b then valued v.value else left_out (ground_with ground'))
@@ -120,7 +120,7 @@ module _ (table : Table) (v : View) where
 
 -- A REPORT WITHOUT ITS LOSSES IS THE REPORT OF BEFORE, of every record
 pub report_stays : (d : Deal) → report_as_before (report_of d) ≡ report_before d
-unfolding report_under report_before as_before if◌then◌else◌
+unfolding report_under report_before as_before
 report_stays d = go (accepted d)
   where
     go : (b : Bool) →

@@ -6,7 +6,6 @@ use mathlib.Core.Bool.{true, not, ◌&&◌}
 use mathlib.Core.List.{List, [], ◌∷◌}
 use lib.Dec.{eqb, leb}
 use borrow.Author.Tests.{not-false as held, not-true}
-use Rattle.base.specs.Choice.{if◌then◌else◌}
 use Rattle.base.specs.FirstMet.{◌when◌, first_met}
 use Rattle.base.proofs.All.{all_set}
 use Rattle.base.proofs.Choice.{either, if_true}
@@ -143,13 +142,13 @@ module _ (d : Deal) (a : accepted_by in_force d ≡ true) where
 -- LINES
 
 pub line_same : (edition : ℕ) (line : List ℕ) → no_swap line ≡ true → line_of edition line ≡ line_before_swaps edition line
-unfolding line_of line_before_swaps if◌then◌else◌
+unfolding line_of line_before_swaps
 line_same edition [] n = refl
 line_same edition (letter ∷ rest) n = rw (not-true (eqb letter (byte "S")) n)
 
 -- a line S was malformed
 pub was_malformed : (edition : ℕ) (rest : List ℕ) → line_before_swaps edition (byte "S" ∷ rest) ≡ Malformed
-unfolding line_before_swaps if◌then◌else◌
+unfolding line_before_swaps
 was_malformed edition rest = refl
 
 -- what lines brought was a guarantee

@@ -7,7 +7,6 @@ use mathlib.Core.List.{[]}
 use lib.Dec.{leb, eqb}
 use borrow.Author.Tests.{eqb-true}
 use Rattle.base.specs.All.{all_pass}
-use Rattle.base.specs.Choice.{if◌then◌else◌}
 use Rattle.base.specs.FirstMet.{first_or}
 use Rattle.base.proofs.Choice.{if_true, never}
 use Rattle.base.proofs.Every.{both}
@@ -76,11 +75,11 @@ module _ (low high : ℕ) (raised : low ≤ high) where
 
   -- an item by itself
   collateral_kept : (c : Collateral) → Kept (collateral_refusal_by (up_to low) c) (none_above low (collateral_days c)) → collateral_refusal_by (up_to high) c ≡ collateral_refusal_by (up_to low) c
-  unfolding collateral_refusal_by first_or if◌then◌else◌
+  unfolding collateral_refusal_by first_or
   collateral_kept c k = collateral_stays low high raised false c k
 
   guarantee_kept : (g : Guarantee) → Kept (guarantee_refusal_by (up_to low) g) (none_above low (guarantee_days g)) → guarantee_refusal_by (up_to high) g ≡ guarantee_refusal_by (up_to low) g
-  unfolding guarantee_refusal_by first_or if◌then◌else◌
+  unfolding guarantee_refusal_by first_or
   guarantee_kept g k = guarantee_stays low high raised false g k
 
   -- Which records are accepted

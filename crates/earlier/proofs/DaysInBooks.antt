@@ -106,7 +106,7 @@ module _ (low high : ℕ) (raised : low ≤ high) where
         go false e =
             let before = if_false _ (lines_answer_by (up_to low) opening (number + 1) after lines) (refused_at refusal number) e in
             let stays = further_line d said a (kept_at (line_none_above low said) (lines_none_above low d.terms.edition lines) refusal number before k) in
-            if_false _ _ _ (rw stays e) ∙ ap (λ r. refused_at r number) stays ∙ sym before
+            if_false (eqb (line_refusal_by (up_to high) d said) 0) _ _ (rw stays e) ∙ ap (λ r. refused_at r number) stays ∙ sym before
 
   lines_stay : (opening number : ℕ) (d : Deal) (lines : List (List ℕ)) → accepted_up_to low d ≡ true →
       Kept (get_or (lines_answer_by (up_to low) opening number d lines) 0 0) (lines_none_above low d.terms.edition lines) →
@@ -142,7 +142,7 @@ module _ (low high : ℕ) (raised : low ≤ high) where
       go false e =
           let before = if_false _ (lines_answer_by (up_to low) deal.number (deal.number + 1) (line_opened_by (up_to low) line) deal.further) (refused_at refused deal.number) e in
           let stays = opening_line line (kept_at (line_none_above low line) (lines_none_above low edition deal.further) refused deal.number before k) in
-          if_false _ _ _ (rw stays e) ∙ ap (λ r. refused_at r deal.number) stays ∙ sym before
+          if_false (eqb (opening_refusal_by (up_to high) line) 0) _ _ (rw stays e) ∙ ap (λ r. refused_at r deal.number) stays ∙ sym before
 
   -- A BOOK
 

@@ -1,4 +1,5 @@
 -- A higher limit of days in the tests of fields: only a 5 can change, and only where a day is above the lower limit. Assumes nothing.
+use Rattle.std.proofs.Common.{if◌then◌else◌}
 use Prim.Native.Nat.{ℕ, ◌≤◌}
 use mathlib.Core.Logic.{◌⊎◌, inl, inr}
 use mathlib.Core.Path.{◌≡◌, refl, ap}
@@ -7,7 +8,6 @@ use mathlib.Core.List.{List, [], ◌∷◌, ◌++◌}
 use native.Mathlib.Omega.{arith}
 use lib.Dec.{leb, eqb}
 use borrow.Author.Tests.{eq-eqb, eqb-true, leb-true, le-leb, not-false as held}
-use Rattle.base.specs.Choice.{if◌then◌else◌}
 use Rattle.base.specs.FirstMet.{NoneMet, Test, ◌when◌, first_or, first_met}
 use Rattle.base.specs.Range.{within}
 use Rattle.base.proofs.Choice.{never}
@@ -31,7 +31,7 @@ use Rattle.earlier.specs.Rules.{up_to}
 -- a test among others that is met less often: where its number was not given, what is given stays
 first_eased : (front : List (Test ℕ)) (n : ℕ) (met met' : Bool) (back : List (Test ℕ)) → (met ≡ false → met' ≡ false) →
     eqb (first_met (front ++ (n when met) ∷ back)) n ≡ false → first_met (front ++ (n when met') ∷ back) ≡ first_met (front ++ (n when met) ∷ back)
-unfolding first_or if◌then◌else◌
+unfolding first_or
 first_eased [] n true met' back eased e = absurd (never (eq-eqb n n refl) e)
 first_eased [] n false met' back eased e = rw (eased refl)
 first_eased ((k when true) ∷ front) n met met' back eased e = refl
@@ -71,7 +71,7 @@ module _ (low high : ℕ) (raised : low ≤ high) where
   days_same n e = rw (e, le-leb n high (omega (arith, leb-true n low e, raised)))
 
   life_more : (a : Asset) → life_allowed low a ≡ true → life_allowed high a ≡ true
-  unfolding life_allowed if◌then◌else◌
+  unfolding life_allowed
   life_more a e = go (is_debt a.goods) e
     where
       go : (debt : Bool) → (if debt then days_allowed low a.life else eqb a.life 0) ≡ true → (if debt then days_allowed high a.life else eqb a.life 0) ≡ true
@@ -121,7 +121,7 @@ module _ (low high : ℕ) (raised : low ≤ high) where
 
   -- so a refusal stays, behind 6 where a list is full, unless it was a 5 and a day is above the lower limit
   pub terms_stay : (t : Terms) → Kept (first_met ((up_to low).terms_tests t)) (none_above low (terms_days t)) → first_met ((up_to high).terms_tests t) ≡ first_met ((up_to low).terms_tests t)
-  unfolding first_or if◌then◌else◌
+  unfolding first_or
   terms_stay t (inl e) = refusal_stays false (terms_checks low t) _ (terms_more t) e
   terms_stay t (inr e) = ap (λ r. first_met (field_tests (with_ranges (terms_checks low t) r))) (terms_same t e)
 
@@ -141,7 +141,7 @@ module _ (limit : ℕ) where
   days_short n e = le-leb n limit (bounds 1 limit n e).1
 
   life_short : (a : Asset) → life_allowed limit a ≡ true → leb a.life limit ≡ true
-  unfolding life_allowed if◌then◌else◌
+  unfolding life_allowed
   life_short a e = go (is_debt a.goods) e
     where
       go : (debt : Bool) → (if debt then days_allowed limit a.life else eqb a.life 0) ≡ true → leb a.life limit ≡ true

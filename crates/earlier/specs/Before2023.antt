@@ -1,7 +1,6 @@
 -- The rules before the 2023 tables (02: L9) and after the sovereign floor (02: L5): two headings and two editions, as they stood, and the tables of
 -- 2019, whose definitions that request left alone (by number they are in proofs/Examples2023)
-use Rattle.std.specs.Prelude.{ℕ, Bool, true, ◌&&◌, List}
-use Rattle.base.specs.Choice.{if◌then◌else◌}
+use Rattle.std.specs.Prelude.{ℕ, Bool, true, ◌&&◌, List, if◌then◌else◌}
 use Rattle.base.specs.Range.{within}
 use Rattle.tables.specs.Table.{table_2019}
 use Rattle.text.specs.Bytes.{bytes}

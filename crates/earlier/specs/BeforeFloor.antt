@@ -2,9 +2,8 @@
 -- step, no test of it or of an edition, and weights by class and step alone. Lines read by these rules give 0 for the sovereign's step and 1 for the
 -- edition, which records did not hold then; no rule of `before_floor` reads either. Swaps (02: L1), which came later, are here what they are today,
 -- but for the sovereign's step in their lines; the rules before them are in specs/BeforeSwaps. So are the losses in a report (02: L2)
-use Rattle.std.specs.Prelude.{ℕ, Bool, true, ◌&&◌, List, [], ◌∷◌, eqb, leb, get_or}
+use Rattle.std.specs.Prelude.{ℕ, Bool, true, ◌&&◌, List, [], ◌∷◌, eqb, leb, get_or, if◌then◌else◌}
 use Rattle.base.specs.All.{all_pass}
-use Rattle.base.specs.Choice.{if◌then◌else◌}
 use Rattle.tables.specs.Eligibility.{eligible}
 use Rattle.tables.specs.Haircuts.{haircut, lent_haircut}
 use Rattle.tables.specs.Table.{Table}

@@ -2,9 +2,8 @@
 -- had its value or its ground alone. This says what relief/specs said. What it is made of is today's definition, whose text has not moved: which records
 -- are accepted, the tables, grounds, haircuts, what of a swap is hedged, the value after haircut and maturity (`recognised`), the raised exposure,
 -- weights, cover and its rounding
-use Rattle.std.specs.Prelude.{ℕ, ◌-◌, min, eqb}
+use Rattle.std.specs.Prelude.{ℕ, ◌-◌, min, eqb, if◌then◌else◌}
 use mathlib.Core.List.{List, [], map, zip_with}
-use Rattle.base.specs.Choice.{if◌then◌else◌}
 use Rattle.base.specs.Places.{in_places}
 use Rattle.base.specs.Sum.{sum_of}
 use Rattle.tables.specs.Table.{Table}

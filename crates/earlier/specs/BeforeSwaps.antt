@@ -1,8 +1,7 @@
 -- The rules before credit derivatives (02: L1), as they stood: lines D, C and G, no test of an instrument, and every item a guarantee, whose whole
 -- amount is hedged. Reports have the losses that came later (02: L2), as they do today
-use Rattle.std.specs.Prelude.{ℕ, Bool, not, ◌&&◌, List, [], ◌∷◌, map, eqb, leb, get_or}
+use Rattle.std.specs.Prelude.{ℕ, Bool, not, ◌&&◌, List, [], ◌∷◌, map, eqb, leb, get_or, if◌then◌else◌}
 use Rattle.base.specs.All.{all_pass}
-use Rattle.base.specs.Choice.{if◌then◌else◌}
 use Rattle.text.specs.Bytes.{byte}
 use Rattle.deal.specs.Checks.{field_tests}
 use Rattle.deal.specs.Collateral.{collateral_tests}

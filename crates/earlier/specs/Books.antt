@@ -1,8 +1,7 @@
 -- The answers to a book by a set of rules. Each follows the definition that it is named after (`answers_by` of `answers_from`, `results_by` of
 -- `results_after`); by the rules in force it is proved to be that one (proofs/Now)
-use Rattle.std.specs.Prelude.{ℕ, ◌+◌, ◌*◌, not, List, [], ◌∷◌, ◌++◌, eqb, ltb, length, take}
+use Rattle.std.specs.Prelude.{ℕ, ◌+◌, ◌*◌, not, List, [], ◌∷◌, ◌++◌, eqb, ltb, length, take, if◌then◌else◌}
 use Rattle.base.specs.All.{all_pass}
-use Rattle.base.specs.Choice.{if◌then◌else◌}
 use Rattle.base.specs.FirstMet.{Test, ◌when◌, first_met}
 use Rattle.base.specs.Writing.{overwrite}
 use Rattle.text.specs.Text.{book_limit, first_line}

@@ -1,7 +1,6 @@
 -- Opening, adding and reporting by a set of rules. Each follows the definition that it is named after (`deal_opened_by` of `opened_deal`, `report_by` of
 -- `report_of`); by the rules in force it is proved to be that one, which the contracts name (proofs/Now)
-use Rattle.std.specs.Prelude.{ℕ, Bool, not, ◌&&◌, List, [], ◌∷◌, eqb}
-use Rattle.base.specs.Choice.{if◌then◌else◌}
+use Rattle.std.specs.Prelude.{ℕ, Bool, not, ◌&&◌, List, [], ◌∷◌, eqb, if◌then◌else◌}
 use Rattle.base.specs.FirstMet.{Test, ◌when◌, first_met}
 use Rattle.deal.specs.Collateral.{append_collateral}
 use Rattle.deal.specs.Fields.{zero_terms}

@@ -1,4 +1,5 @@
 -- What lines say by their letters: a deal holds the edition that its lines are read by, and only a line C says collateral. Assumes nothing.
+use Rattle.std.proofs.Common.{if◌then◌else◌}
 use Prim.Native.Nat.{ℕ, ◌≤◌}
 use mathlib.Core.Path.{◌≡◌, refl}
 use mathlib.Core.List.{List, [], ◌∷◌, map}
@@ -6,7 +7,6 @@ use mathlib.Core.Option.{Option, none, some}
 use native.Mathlib.Omega.{arith}
 use lib.Dec.{eqb}
 use lib.ListN.{length, length-append}
-use Rattle.base.specs.Choice.{if◌then◌else◌}
 use Rattle.base.specs.Reordered.{how_many}
 use Rattle.base.specs.Sum.{sum_of}
 use Rattle.base.proofs.Choice.{either, if_true}

@@ -1,4 +1,5 @@
 -- One unmismatched cash item in the deal's currency, split in two: the same figures, and accepted while both fit. 02: L7. Assumes nothing.
+use Rattle.std.proofs.Common.{if◌then◌else◌}
 use Prim.Native.Nat.{ℕ, suc, ◌+◌, ◌≤◌, ◌<◌}
 use mathlib.Core.Path.{◌≡◌, refl, sym, ◌∙◌}
 use mathlib.Core.Bool.{Bool, true, false}
@@ -7,7 +8,6 @@ use native.Mathlib.Omega.{arith}
 use borrow.Author.Tests.{eq-eqb, eqb-true, le-leb, leb-true}
 use lib.Dec.{eqb}
 use lib.ListN.{length}
-use Rattle.base.specs.Choice.{if◌then◌else◌}
 use Rattle.base.specs.Reordered.{Inserted}
 use Rattle.base.proofs.Choice.{either, if_false, if_true}
 use Rattle.base.proofs.FirstMet.{none_exactly, none_met}
@@ -72,7 +72,7 @@ counts_in_full t c m = rw (no_haircut t c m) (whole c.amount c.residual t.residu
 -- ---- and so do its parts, or all are left out
 parts_add : (ground a b c : ℕ) (u v w : Valuation) → u.value + v.value ≡ w.value →
     outcome_value (outcome_for ground a u) + outcome_value (outcome_for ground b v) ≡ outcome_value (outcome_for ground c w)
-unfolding outcome_for outcome_valuation if◌then◌else◌
+unfolding outcome_for outcome_valuation
 parts_add ground a b c u v w e = go (eqb ground 0)
   where
     go : (t : Bool) →

@@ -1,4 +1,5 @@
 -- Opening and adding on numbers, by the tests that come before the operations' own. Assumes nothing.
+use Rattle.std.proofs.Common.{if◌then◌else◌}
 use Prim.Native.Nat.{ℕ}
 use mathlib.Core.Path.{◌≡◌, refl, sym, ap, ◌∙◌}
 use mathlib.Core.Bool.{false}
@@ -6,7 +7,6 @@ use mathlib.Core.List.{List}
 use lib.Dec.{eqb}
 use lib.ListN.{length, length-set, replicate}
 use borrow.Author.Tests.{eq-eqb}
-use Rattle.base.specs.Choice.{if◌then◌else◌}
 use Rattle.base.specs.FirstMet.{Test, first_met}
 use Rattle.base.proofs.Choice.{either, if_false, if_true}
 use Rattle.base.proofs.FirstMet.{met_first, not_met}
@@ -37,7 +37,7 @@ module _ (terms : List ℕ) where
 
   pub opened_11 : eqb (length terms) terms_width ≡ false → opened_numbers terms ≡ replicate record_length 0
   unfolding opened_numbers
-  opened_11 e = if_false _ _ _ (rw (opening_11 e) refl)
+  opened_11 e = if_false (eqb (first_met (opening_tests terms)) 0) _ _ (rw (opening_11 e) refl)
 
   -- numbers that are terms: opening decides
   pub opening_by_terms : length terms ≡ terms_width → first_met (opening_tests terms) ≡ terms_refusal (terms_in terms)
@@ -71,10 +71,10 @@ module _ (width : ℕ) (numbers item : List ℕ) (tests : List (Test ℕ)) where
   changed after = if eqb (adding_refusal width numbers item tests) 0 then after else numbers
 
   pub kept_11 : (after : List ℕ) → eqb (length item) width ≡ false → changed after ≡ numbers
-  kept_11 after e = if_false _ _ _ (rw (adding_11 e) refl)
+  kept_11 after e = if_false (eqb (adding_refusal width numbers item tests) 0) _ _ (rw (adding_11 e) refl)
 
   pub kept_40 : (after : List ℕ) → length item ≡ width → eqb (length numbers) record_length ≡ false → changed after ≡ numbers
-  kept_40 after e q = if_false _ _ _ (rw (adding_40 e q) refl)
+  kept_40 after e q = if_false (eqb (adding_refusal width numbers item tests) 0) _ _ (rw (adding_40 e q) refl)
 
   -- whatever adding answers, they are then the numbers of the deal that it gives
   changed_numbers : length item ≡ width → length numbers ≡ record_length → (after : Deal) → (eqb (first_met tests) 0 ≡ false → after ≡ deal_in numbers) →

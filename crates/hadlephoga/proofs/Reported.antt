@@ -5,7 +5,6 @@ use mathlib.Core.List.{List, [], ◌∷◌, ◌++◌}
 use mathlib.Core.Logic.{◌≢◌}
 use lib.ListN.{length, replicate}
 use borrow.Author.Tests.{eq-eqb, le-ltb, ne_eqb}
-use Rattle.base.specs.Choice.{if◌then◌else◌}
 use Rattle.base.specs.Writing.{overwrite}
 use Rattle.base.proofs.Choice.{if_false, if_true}
 use Rattle.deal.specs.Answers.{answer_number}
@@ -80,5 +79,5 @@ answer_no_record numbers places e h =
 
 -- so is a record of zeros
 zeros_reported : (reporting_refusal (replicate 366 0) 212 ≡ 40) × (list_after (replicate 366 0) (replicate 212 7) ≡ replicate 211 0 ++ 7 ∷ [])
-unfolding computed reporting_refusal list_after report_numbers report_in deal_in slices in_order answer_number if◌then◌else◌
+unfolding computed reporting_refusal list_after report_numbers report_in deal_in slices in_order answer_number
 zeros_reported = (refl, refl)

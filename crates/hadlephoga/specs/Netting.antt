@@ -1,7 +1,6 @@
 -- A netting set for callers in other languages, on numbers. 02: L6. Of lists of numbers the paper says nothing; it says of a book's line that a "wrong
 -- number of fields" is 11, which "comes before the operation's own refusals" (01: The book)
-use Rattle.std.specs.Prelude.{ℕ, ◌+◌, ◌*◌, ◌-◌, ◌/◌, Bool, List, map, eqb, drop, length}
-use Rattle.base.specs.Choice.{if◌then◌else◌}
+use Rattle.std.specs.Prelude.{ℕ, ◌+◌, ◌*◌, ◌-◌, ◌/◌, Bool, List, map, eqb, drop, length, if◌then◌else◌}
 use Rattle.netting.specs.Fields.{position_in, position_width, set_terms_in, set_terms_width}
 use Rattle.netting.specs.Reply.{refused_reply, reply_to}
 use Rattle.netting.specs.declared.position.Position.{Position}

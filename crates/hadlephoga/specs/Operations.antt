@@ -2,8 +2,7 @@
 -- the paper says nothing; it says of a book's line that a "wrong number of fields" is 11, which "comes before the operation's own refusals",
 -- and of a lent list that is too short, 13. In order: opening 13, 11, 1 to 5, into a list that may be longer than a record; adding 11, 40, 6, 1
 -- to 5, 7, 8, to a list that is a record
-use Rattle.std.specs.Prelude.{ℕ, not, List, ◌∷◌, eqb, ltb, length, replicate}
-use Rattle.base.specs.Choice.{if◌then◌else◌}
+use Rattle.std.specs.Prelude.{ℕ, not, List, ◌∷◌, eqb, ltb, length, replicate, if◌then◌else◌}
 use Rattle.base.specs.FirstMet.{Test, ◌when◌, first_met}
 use Rattle.deal.specs.Adding.{add_collateral_tests, add_guarantee_tests, with_collateral, with_guarantee}
 use Rattle.deal.specs.Records.{without_protection}

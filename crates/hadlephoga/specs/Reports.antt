@@ -1,6 +1,5 @@
 -- Reporting a deal to callers in other languages, as numbers. 01: Reporting a deal; 02: L2
-use Rattle.std.specs.Prelude.{ℕ, ◌+◌, ◌*◌, List, [], ◌∷◌, ◌++◌, eqb, ltb, length}
-use Rattle.base.specs.Choice.{if◌then◌else◌}
+use Rattle.std.specs.Prelude.{ℕ, ◌+◌, ◌*◌, List, [], ◌∷◌, ◌++◌, eqb, ltb, length, if◌then◌else◌}
 use Rattle.deal.specs.Answers.{answer_number}
 use Rattle.deal.specs.Lists.{list_limit}
 use Rattle.relief.specs.Outcomes.{outcome_ground, outcome_left_out, outcome_valuation}

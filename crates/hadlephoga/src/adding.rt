@@ -1,6 +1,5 @@
 // Adding an item to a record of numbers.
-ghost use Rattle.std.specs.Prelude.{◌≡◌, eqb, length};
-ghost use Rattle.base.specs.Choice.{if◌then◌else◌};
+ghost use Rattle.std.specs.Prelude.{◌≡◌, eqb, length, if◌then◌else◌};
 ghost use Rattle.deal.specs.Answers.{answer_number};
 ghost use Rattle.hadlephoga.specs.Operations.{adding_collateral_refusal, adding_guarantee_refusal, adding_swap_refusal, numbers_with_collateral, numbers_with_guarantee, numbers_with_swap};
 ghost use Rattle.hadlephoga.specs.Records.{deal_numbers, record_length};

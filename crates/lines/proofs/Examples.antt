@@ -5,7 +5,6 @@ use mathlib.Core.Bool.{Bool, beq, true, false, not, ◌||◌}
 use mathlib.Core.List.{List, [], ◌∷◌, ◌++◌, map}
 use lib.Dec.{eqb}
 use lib.ListN.{replicate}
-use Rattle.base.specs.Choice.{if◌then◌else◌}
 use Rattle.base.specs.Range.{within}
 use Rattle.deal.specs.Fields.{collateral_in, guarantee_in, terms_in}
 use Rattle.base.proofs.Every.{every}
@@ -41,7 +40,7 @@ numbers =
     )
 
 numbers_read : numbers ≡ Value 0 1 ∷ Value 7 1 ∷ Value 9999999999999 13 ∷ Value 12 2 ∷ Value 12 2 ∷ replicate 6 NoNumber
-unfolding number_of number_read number_allowed digits_of decimal_from within if◌then◌else◌
+unfolding number_of number_read number_allowed digits_of decimal_from within
 numbers_read = refl
 
 -- the first three lines of the example of 01
@@ -80,7 +79,7 @@ lines_read :
     ∷ []
     )
     ≡ said
-unfolding line_of width_under with_sovereign deal_line collateral_line guarantee_line swap_line if_read fields_of with_number and_then is_end field_of number_of number_read number_allowed digits_of decimal_from within if◌then◌else◌
+unfolding line_of width_under with_sovereign deal_line collateral_line guarantee_line swap_line if_read fields_of with_number and_then is_end field_of number_of number_read number_allowed digits_of decimal_from within
 lines_read = refl
 
 -- "unknown letter, wrong number of fields, bad number, or no line feed"
@@ -110,7 +109,7 @@ ill =
     ∷ []
 
 all_malformed : map (line_of 1) ill ≡ replicate 16 Malformed
-unfolding line_of width_under with_sovereign deal_line collateral_line guarantee_line swap_line if_read fields_of with_number and_then is_end field_of number_of number_read number_allowed digits_of decimal_from within if◌then◌else◌
+unfolding line_of width_under with_sovereign deal_line collateral_line guarantee_line swap_line if_read fields_of with_number and_then is_end field_of number_of number_read number_allowed digits_of decimal_from within
 all_malformed = refl
 
 -- each field in its place, and none cut to a narrower width
@@ -145,7 +144,7 @@ fields_in_place :
       instrument = 0;
     })
     ∷ []
-unfolding line_of width_under with_sovereign deal_line collateral_line guarantee_line swap_line if_read fields_of with_number and_then is_end field_of number_of number_read number_allowed digits_of decimal_from within if◌then◌else◌
+unfolding line_of width_under with_sovereign deal_line collateral_line guarantee_line swap_line if_read fields_of with_number and_then is_end field_of number_of number_read number_allowed digits_of decimal_from within
 fields_in_place = refl
 
 -- 100,000 days in each field that holds days (02: L11), whole
@@ -164,7 +163,7 @@ longest_read :
     ∷ []
     )
     ≡ longest
-unfolding line_of width_under with_sovereign deal_line collateral_line guarantee_line swap_line if_read fields_of with_number and_then is_end field_of number_of number_read number_allowed digits_of decimal_from within if◌then◌else◌
+unfolding line_of width_under with_sovereign deal_line collateral_line guarantee_line swap_line if_read fields_of with_number and_then is_end field_of number_of number_read number_allowed digits_of decimal_from within
 longest_read = refl
 
 -- of all bytes the tab alone parts fields, and the line feed alone ends them, with nothing before it
@@ -176,7 +175,7 @@ parts_only :
     (only tab (λ b. is_number (field_of (b ∷ bytes "1"))) ≡ true)
     × (only line_feed (λ b. is_end (b ∷ [])) ≡ true)
     × (every 256 (λ b. not (is_end (b ∷ line_feed ∷ []))) ≡ true)
-unfolding is_number is_end field_of number_of number_read number_allowed digits_of decimal_from within if◌then◌else◌
+unfolding is_number is_end field_of number_of number_read number_allowed digits_of decimal_from within
 parts_only = (refl, refl, refl)
 
 -- and a line of ten numbers is read behind the letters D and S alone, one of eleven behind C, one of nine behind G
@@ -190,7 +189,7 @@ letters_only :
     (every 256 (λ b. beq (is_read (line_of 1 (b ∷ bytes "\t1\t1\t1\t1\t1\t1\t1\t1\t1\t1\n"))) (eqb b (byte "D") || eqb b (byte "S"))) ≡ true)
     × (only (byte "C") (λ b. is_read (line_of 1 (b ∷ bytes "\t1\t1\t1\t1\t1\t1\t1\t1\t1\t1\t1\n"))) ≡ true)
     × (only (byte "G") (λ b. is_read (line_of 1 (b ∷ bytes "\t1\t1\t1\t1\t1\t1\t1\t1\t1\n"))) ≡ true)
-unfolding is_read line_of width_under with_sovereign deal_line collateral_line guarantee_line swap_line if_read fields_of with_number and_then is_end field_of number_of number_read number_allowed digits_of decimal_from within if◌then◌else◌
+unfolding is_read line_of width_under with_sovereign deal_line collateral_line guarantee_line swap_line if_read fields_of with_number and_then is_end field_of number_of number_read number_allowed digits_of decimal_from within
 letters_only = (refl, refl, refl)
 
 -- THE SOVEREIGN'S STEP. 02: L5
@@ -224,7 +223,7 @@ fields_in_place_2 :
       instrument = 0;
     })
     ∷ []
-unfolding line_of width_under with_sovereign deal_line collateral_line guarantee_line swap_line if_read fields_of with_number and_then is_end field_of number_of number_read number_allowed digits_of decimal_from within if◌then◌else◌
+unfolding line_of width_under with_sovereign deal_line collateral_line guarantee_line swap_line if_read fields_of with_number and_then is_end field_of number_of number_read number_allowed digits_of decimal_from within
 fields_in_place_2 = refl
 
 -- under the third heading they are as under the second, but for the edition. 02: L9
@@ -241,7 +240,7 @@ fields_in_place_3 :
     ∷ CollateralLine (collateral_in (101 ∷ 102 ∷ 103 ∷ 104 ∷ 105 ∷ 106 ∷ 107 ∷ 108 ∷ 109 ∷ 110 ∷ 111 ∷ []))
     ∷ GuaranteeLine (guarantee_in (101 ∷ 102 ∷ 103 ∷ 104 ∷ 105 ∷ 106 ∷ 107 ∷ 108 ∷ 109 ∷ 110 ∷ []))
     ∷ replicate 3 Malformed
-unfolding line_of width_under with_sovereign deal_line collateral_line guarantee_line swap_line if_read fields_of with_number and_then is_end field_of number_of number_read number_allowed digits_of decimal_from within if◌then◌else◌
+unfolding line_of width_under with_sovereign deal_line collateral_line guarantee_line swap_line if_read fields_of with_number and_then is_end field_of number_of number_read number_allowed digits_of decimal_from within
 fields_in_place_3 = refl
 
 -- under either heading the other's lines D and G are malformed, and lines C are the same
@@ -255,14 +254,14 @@ other_heading :
     (map is_read (map (line_of 1) lines_1) ∷ map is_read (map (line_of 2) lines_2) ∷ map is_read (map (line_of 2) lines_1) ∷ map is_read (map (line_of 1) lines_2) ∷ []
     ≡ replicate 2 (replicate 2 true) ++ replicate 2 (replicate 2 false))
     × (let c = bytes "C\t500\t1\t0\t0\t978\t30\t30\t1\t1\t1\t0\n" in (line_of 2 c ≡ line_of 1 c) × (is_read (line_of 2 c) ≡ true))
-unfolding is_read line_of width_under with_sovereign deal_line collateral_line guarantee_line swap_line if_read fields_of with_number and_then is_end field_of number_of number_read number_allowed digits_of decimal_from within if◌then◌else◌
+unfolding is_read line_of width_under with_sovereign deal_line collateral_line guarantee_line swap_line if_read fields_of with_number and_then is_end field_of number_of number_read number_allowed digits_of decimal_from within
 other_heading = (refl, (refl, refl))
 
 -- eleven numbers are read behind the letters D, C and S alone, ten behind G
 letters_only_2 :
     (every 256 (λ b. beq (is_read (line_of 2 (b ∷ bytes "\t1\t1\t1\t1\t1\t1\t1\t1\t1\t1\t1\n"))) (eqb b (byte "D") || eqb b (byte "C") || eqb b (byte "S"))) ≡ true)
     × (only (byte "G") (λ b. is_read (line_of 2 (b ∷ bytes "\t1\t1\t1\t1\t1\t1\t1\t1\t1\t1\n"))) ≡ true)
-unfolding is_read line_of width_under with_sovereign deal_line collateral_line guarantee_line swap_line if_read fields_of with_number and_then is_end field_of number_of number_read number_allowed digits_of decimal_from within if◌then◌else◌
+unfolding is_read line_of width_under with_sovereign deal_line collateral_line guarantee_line swap_line if_read fields_of with_number and_then is_end field_of number_of number_read number_allowed digits_of decimal_from within
 letters_only_2 = (refl, refl)
 
 -- LINES OF SWAPS. 02: L1
@@ -285,7 +284,7 @@ swaps_read :
     ≡ replicate 2 (GuaranteeLine (guarantee_in (101 ∷ 102 ∷ 103 ∷ 104 ∷ 105 ∷ 106 ∷ 107 ∷ 108 ∷ 109 ∷ 110 ∷ 1 ∷ []))))
     × (map (λ edition. line_of edition (bytes "S\t101\t102\t103\t104\t105\t106\t107\t108\t109\t110\t1\n")) (2 ∷ 3 ∷ [])
     ≡ replicate 2 (GuaranteeLine (guarantee_in (101 ∷ 102 ∷ 103 ∷ 104 ∷ 105 ∷ 106 ∷ 107 ∷ 108 ∷ 109 ∷ 110 ∷ 2 ∷ []))))
-unfolding line_of width_under with_sovereign deal_line collateral_line guarantee_line swap_line if_read fields_of with_number and_then is_end field_of number_of number_read number_allowed digits_of decimal_from within if◌then◌else◌
+unfolding line_of width_under with_sovereign deal_line collateral_line guarantee_line swap_line if_read fields_of with_number and_then is_end field_of number_of number_read number_allowed digits_of decimal_from within
 swaps_read = (refl, refl, refl)
 
 -- one number more or less, a G's numbers, no line feed, a small letter: malformed
@@ -307,5 +306,5 @@ swaps_malformed :
     ∷ bytes "G\t5\t1\t1\t0\t978\t30\t30\t1\t1\t1\t0\n"
     ∷ [])
     ≡ replicate 5 Malformed)
-unfolding line_of width_under with_sovereign deal_line collateral_line guarantee_line swap_line if_read fields_of with_number and_then is_end field_of number_of number_read number_allowed digits_of decimal_from within if◌then◌else◌
+unfolding line_of width_under with_sovereign deal_line collateral_line guarantee_line swap_line if_read fields_of with_number and_then is_end field_of number_of number_read number_allowed digits_of decimal_from within
 swaps_malformed = (refl, refl)

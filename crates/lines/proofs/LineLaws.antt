@@ -7,7 +7,6 @@ use native.Mathlib.Nat.{not-suc-le-zero}
 use native.Mathlib.Omega.{arith}
 use lib.ListN.{length, get_or, drop, replicate, take}
 use lib.Seq.{get_or-drop, get_or-take}
-use Rattle.base.specs.Choice.{if◌then◌else◌}
 use Rattle.base.specs.Places.{in_places}
 use Rattle.base.proofs.Placed.{places_hold}
 use Rattle.deal.specs.Fields.{guarantee_sent, swap_sent, terms_under}
@@ -30,7 +29,7 @@ held_at vs k =
 
 -- what is said of fields is said of them in the places that hold them
 held : (said : List ℕ → Line) → ((vs : List ℕ) → said (in_places 11 0 vs) ≡ said vs) → (o : Option (List ℕ)) → if_held said (fields_held o) ≡ if_read said o
-unfolding if_held if_read fields_held if◌then◌else◌
+unfolding if_held if_read fields_held
 held said same none = refl
 held said same (some vs) = same vs
 

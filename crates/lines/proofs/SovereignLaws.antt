@@ -1,11 +1,11 @@
 -- The laws of the sovereign's step in a line. Assumes nothing.
+use Rattle.std.proofs.Common.{if◌then◌else◌}
 use Prim.Native.Nat.{ℕ, zero, suc, ◌≤◌}
 use mathlib.Core.Path.{◌≡◌, refl, ap, sym, ◌∙◌}
 use mathlib.Core.Bool.{Bool, true, false}
 use mathlib.Core.List.{List, [], ◌∷◌, ◌++◌}
 use native.Mathlib.Omega.{arith}
 use lib.ListN.{length, get_or, take, drop}
-use Rattle.base.specs.Choice.{if◌then◌else◌}
 use Rattle.base.proofs.Arrays.{as_read}
 use Rattle.base.proofs.Choice.{either, if_false, if_true}
 use Rattle.lines.specs.Fields.{most_fields}
@@ -49,7 +49,7 @@ put_at (suc n) (x ∷ xs) (suc k) = put_at n xs k
 
 -- fields that agree in every place still do with the sovereign's step among them
 pub sovereign_same : (edition : ℕ) (xs ys : List ℕ) → ((k : ℕ) → get_or xs k 0 ≡ get_or ys k 0) → (k : ℕ) → get_or (with_sovereign edition xs) k 0 ≡ get_or (with_sovereign edition ys) k 0
-unfolding with_sovereign if◌then◌else◌
+unfolding with_sovereign
 sovereign_same edition xs ys h k = go (leaves_out_sovereign edition)
   where
     go : (out : Bool) → get_or (if out then take 3 xs ++ 0 ∷ drop 3 xs else xs) k 0 ≡ get_or (if out then take 3 ys ++ 0 ∷ drop 3 ys else ys) k 0

@@ -1,7 +1,6 @@
 -- The fields of a line behind its letter. 01: The book
-use Rattle.std.specs.Prelude.{ℕ, zero, suc, ◌+◌, Bool, true, false, List, [], ◌∷◌, eqb, drop, replicate}
+use Rattle.std.specs.Prelude.{ℕ, zero, suc, ◌+◌, Bool, true, false, List, [], ◌∷◌, eqb, drop, replicate, if◌then◌else◌}
 use Rattle.std.proofs.Math.Option.{Option, none, some}
-use Rattle.base.specs.Choice.{if◌then◌else◌}
 use Rattle.base.specs.Places.{in_places}
 use Rattle.text.specs.Text.{tab, line_feed}
 use Rattle.deal.specs.Fields.{collateral_width}

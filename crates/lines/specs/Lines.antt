@@ -1,7 +1,6 @@
 -- What a line says, by the edition that the heading says. 01: The book; the fields in the order of What a deal holds; 02: L1, L5, L9
-use Rattle.std.specs.Prelude.{ℕ, ◌-◌, List, [], ◌∷◌, eqb}
+use Rattle.std.specs.Prelude.{ℕ, ◌-◌, List, [], ◌∷◌, eqb, if◌then◌else◌}
 use Rattle.std.proofs.Math.Option.{Option, none, some}
-use Rattle.base.specs.Choice.{if◌then◌else◌}
 use Rattle.text.specs.Bytes.{byte}
 use Rattle.deal.specs.Fields.{collateral_in, collateral_width, guarantee_sent, sent_guarantee_width, sent_swap_width, swap_sent, terms_under, terms_width}
 use Rattle.lines.specs.Fields.{fields_of}

@@ -1,6 +1,5 @@
 -- Numbers in a line. 01: The book
-use Rattle.std.specs.Prelude.{ℕ, Bool, not, ◌&&◌, ◌||◌, List, [], ◌∷◌, eqb, length, get_or}
-use Rattle.base.specs.Choice.{if◌then◌else◌}
+use Rattle.std.specs.Prelude.{ℕ, Bool, not, ◌&&◌, ◌||◌, List, [], ◌∷◌, eqb, length, get_or, if◌then◌else◌}
 use Rattle.base.specs.Range.{within}
 use Rattle.text.specs.Decimal.{decimal}
 use Rattle.lines.specs.declared.number.Number.{Number}

@@ -1,6 +1,5 @@
 -- The sovereign's step in a line, by the edition that the heading says. 02: L5, L9
-use Rattle.std.specs.Prelude.{ℕ, ◌-◌, Bool, List, ◌∷◌, ◌++◌, eqb, take, drop}
-use Rattle.base.specs.Choice.{if◌then◌else◌}
+use Rattle.std.specs.Prelude.{ℕ, ◌-◌, Bool, List, ◌∷◌, ◌++◌, eqb, take, drop, if◌then◌else◌}
 
 -- "D lines gain, after the step, the step of that sovereign. G and S lines gain it in the same place", and "a book headed 1 reads as before":
 -- its lines leave it out. Headed 3, "lines as under 2"

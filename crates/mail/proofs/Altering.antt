@@ -5,7 +5,6 @@ use mathlib.Core.Bool.{Bool, true, false, not, ◌&&◌, ◌||◌}
 use mathlib.Core.List.{List, [], ◌∷◌}
 use borrow.Author.Tests.{eqb-true}
 use lib.Dec.{eqb}
-use Rattle.base.specs.Choice.{if◌then◌else◌}
 use Rattle.base.proofs.Choice.{never}
 use Rattle.mail.specs.Mail.{space, carriage_return}
 use Rattle.mail.specs.Bytewise.{space_first, feed_first, tabbed, bytewise, changed}
@@ -29,7 +28,7 @@ space_no_feed (b ∷ bs) e = rw (eqb-true b space e)
 
 -- line feeds, and carriage returns before them, stand where they stood
 pub feed_bytewise : (text : List ℕ) → feed_first (bytewise text) ≡ feed_first text
-unfolding bytewise feed_first tabbed if◌then◌else◌
+unfolding bytewise feed_first tabbed
 feed_bytewise [] = refl
 feed_bytewise (b ∷ bs) = go (kind b) (feed_bytewise bs) (space_first bs) (feed_first bs) refl refl
   where
@@ -44,7 +43,7 @@ feed_bytewise (b ∷ bs) = go (kind b) (feed_bytewise bs) (space_first bs) (feed
 
 -- what is altered once is not altered again
 pub alters_bytewise : (text : List ℕ) → alters (bytewise text) ≡ false
-unfolding bytewise feed_first tabbed if◌then◌else◌
+unfolding bytewise feed_first tabbed
 alters_bytewise [] = refl
 alters_bytewise (b ∷ bs) = go (kind b) (alters_bytewise bs) (space_first bs) (feed_first bs) refl refl
   where
@@ -58,7 +57,7 @@ alters_bytewise (b ∷ bs) = go (kind b) (alters_bytewise bs) (space_first bs) (
 
 -- a text without a byte to alter is copied
 pub unaltered : (text : List ℕ) → alters text ≡ false → bytewise text ≡ text
-unfolding bytewise tabbed if◌then◌else◌
+unfolding bytewise tabbed
 unaltered [] h = refl
 unaltered (b ∷ bs) h = go (kind b) (unaltered bs) h (feed_first bs) refl
   where

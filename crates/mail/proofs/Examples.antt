@@ -5,7 +5,6 @@ use mathlib.Core.Bool.{not, true}
 use mathlib.Core.List.{List, [], ◌∷◌, ◌++◌, map}
 use lib.Dec.{eqb}
 use lib.ListN.{length, replicate}
-use Rattle.base.specs.Choice.{if◌then◌else◌}
 use Rattle.base.specs.FirstMet.{first_or}
 use Rattle.text.specs.Bytes.{bytes}
 use Rattle.text.specs.Text.{extend_first, lines_of, same_bytes}
@@ -15,7 +14,7 @@ use Rattle.mail.specs.Reply.{buffer_after, numbers_after, repair_refusal, repair
 
 -- `unfolding worked` opens every definition that a repair comes from
 unfoldable pub worked : List ℕ → List ℕ
-unfolding in_front runs_of ends_at_feed repaired_run repaired_runs repaired differing altered_lines extend_first lines_of same_bytes if◌then◌else◌ first_or repair_tests repair_refusal unless_refused repair_reply buffer_after numbers_after
+unfolding in_front runs_of ends_at_feed repaired_run repaired_runs repaired differing altered_lines extend_first lines_of same_bytes first_or repair_tests repair_refusal unless_refused repair_reply buffer_after numbers_after
 worked text = repaired text
 
 -- the runs of a text, each as long as it can be

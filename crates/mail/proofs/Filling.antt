@@ -1,4 +1,5 @@
 -- Both lists, filled from their ends to their fronts. Assumes nothing.
+use Rattle.std.proofs.Common.{if◌then◌else◌}
 use Prim.Native.Nat.{ℕ, zero, suc, ◌+◌, ◌-◌, ◌≤◌, ◌<◌}
 use mathlib.Core.Path.{◌≡◌, refl, sym, ap, ◌∙◌}
 use mathlib.Core.Bool.{Bool, true, false, not, ◌&&◌}
@@ -8,7 +9,6 @@ use borrow.Author.Tests.{eqb-true}
 use lib.Dec.{eqb}
 use lib.ListN.{length, take, drop, get_or, length-append, length-drop, length-set}
 use lib.Seq.{length-take-le, drop-length, get_or-append-add}
-use Rattle.base.specs.Choice.{if◌then◌else◌}
 use Rattle.base.specs.Writing.{placed_at, overwrite}
 use Rattle.base.proofs.Choice.{never}
 use Rattle.base.proofs.Every.{both}
@@ -54,7 +54,6 @@ module _ {xs : List ℕ} {at end : ℕ} {before after : List ℕ} (b : Back xs a
 
   -- where there is one more to come, there is room for it
   back_room : (skip : Bool) (n : ℕ) → length (if skip then xs else n ∷ xs) ≤ end → Room skip at after
-  unfolding if◌then◌else◌
   back_room skip n h = record { inside = omega (arith, back_length, b.fits, b.room); some = go skip h }
     where
       go : (skip : Bool) → length (if skip then xs else n ∷ xs) ≤ end → skip ≡ false → 0 < at
@@ -63,7 +62,6 @@ module _ {xs : List ℕ} {at end : ℕ} {before after : List ℕ} (b : Back xs a
 
   -- one more in front, or none
   back_pushed : (skip : Bool) (n r : ℕ) (after' : List ℕ) → Pushed skip n at after after' r → Back (if skip then xs else n ∷ xs) r end before after'
-  unfolding if◌then◌else◌
   back_pushed true n r after' p = rw (p.0, p.1) b
   back_pushed false n r after' p =
       let e : at ≡ suc r = sym p.0 in
@@ -89,7 +87,6 @@ back_whole xs at before after b =
 
 -- what a part of a text gives is no longer than what the text gives
 not_less : (t : Bool) (n : ℕ) (xs : List ℕ) → length xs ≤ length (if t then xs else n ∷ xs)
-unfolding if◌then◌else◌
 not_less true n xs = omega arith
 not_less false n xs = omega arith
 
@@ -106,7 +103,7 @@ bytes_part (suc i) (b ∷ bs) =
     rw (bytewise_cons b bs) (omega (arith, h, k))
 
 any_number : (n m : ℕ) (lines : List (List ℕ)) → length (changed_from n lines) ≡ length (changed_from m lines)
-unfolding changed_from if◌then◌else◌
+unfolding changed_from
 any_number n m [] = refl
 any_number n m (line ∷ lines) = go (changed line) refl (any_number (suc n) (suc m) lines)
   where
@@ -116,7 +113,6 @@ any_number n m (line ∷ lines) = go (changed line) refl (any_number (suc n) (su
     go false e h = rw e h
 
 more_numbers : (t : Bool) (n : ℕ) (xs : List ℕ) → length xs ≤ length (if t then n ∷ xs else xs)
-unfolding if◌then◌else◌
 more_numbers true n xs = omega arith
 more_numbers false n xs = omega arith
 
@@ -151,7 +147,7 @@ record TabFirst (text : List ℕ) : Type 0 where
   first : bytewise text ≡ tab ∷ rest
 
 tab_first : (text : List ℕ) → space_first text ≡ true → TabFirst text
-unfolding space_first bytewise tabbed if◌then◌else◌
+unfolding space_first bytewise tabbed
 tab_first [] e = absurd (never e refl)
 tab_first (b ∷ bs) e = go (space_first bs) refl (tab_first bs)
   where
@@ -179,7 +175,6 @@ module _ (book buffer₀ list₀ : List ℕ) where
 numbers_pushed : (t a : Bool) (line own : ℕ) (text : List ℕ) → line ≡ plus_if t own →
     (if not (t && a) then later_numbers (plus_if t (suc own)) text else suc own ∷ later_numbers (plus_if t (suc own)) text)
     ≡ (if not (t && a) then later_numbers (suc line) text else line ∷ later_numbers (suc line) text)
-unfolding if◌then◌else◌
 numbers_pushed true a line own text e = rw e
 numbers_pushed false a line own text e = rw e
 
@@ -278,7 +273,6 @@ module _ (book buffer₀ list₀ buffer list : List ℕ) (filled : Filled) (f : 
     first_line_lem = let h = rw z at f.numbered in omega (arith, h)
 
     all_numbers : (if not filled.place.altered then later_numbers (suc filled.line) text else filled.line ∷ later_numbers (suc filled.line) text) ≡ numbers_of 1 book
-    unfolding if◌then◌else◌
     all_numbers = rw (first_line_lem, z) (go filled.place.altered (rw z at f.ahead.changing) ∙ sym (numbers_first 1 book))
       where
         go : (t : Bool) → t ≡ changed (first_line book)

@@ -1,4 +1,5 @@
 -- What a repair keeps: line feeds and lines. 02: L14. Assumes nothing.
+use Rattle.std.proofs.Common.{if◌then◌else◌}
 use Prim.Native.Nat.{ℕ, suc, ◌≤◌}
 use mathlib.Core.Path.{◌≡◌, refl, ap, ◌∙◌}
 use mathlib.Core.Bool.{Bool, true, false}
@@ -6,7 +7,6 @@ use mathlib.Core.List.{List, [], ◌∷◌, map}
 use native.Mathlib.Omega.{arith}
 use lib.Dec.{eqb}
 use lib.ListN.{length, length-map}
-use Rattle.base.specs.Choice.{if◌then◌else◌}
 use Rattle.text.specs.Text.{extend_first, line_feed, lines_of}
 use Rattle.mail.specs.Mail.{altered_lines, repaired}
 use Rattle.mail.specs.Bytewise.{space_first, feed_first, left_out, tabbed, bytewise, changed, changed_from}
@@ -16,7 +16,7 @@ use Rattle.mail.proofs.Lines.{lines_bytewise}
 use Rattle.mail.proofs.Runs.{bytewise_is, numbers_are}
 
 feeds_bytewise : (text : List ℕ) → feeds (bytewise text) ≡ feeds text
-unfolding feeds bytewise tabbed if◌then◌else◌
+unfolding feeds bytewise tabbed
 feeds_bytewise [] = refl
 feeds_bytewise (b ∷ bs) = go (kind b) (feeds_bytewise bs) (space_first bs) (feed_first bs) refl refl
   where
@@ -46,7 +46,6 @@ lines_kept text = rw (lines_repaired text, length-map)
 -- what a repair gives is no longer than what it got
 
 one_more : (t : Bool) (x : ℕ) (xs : List ℕ) (n : ℕ) → length xs ≤ n → length (if t then xs else x ∷ xs) ≤ suc n
-unfolding if◌then◌else◌
 one_more true x xs n h = omega arith
 one_more false x xs n h = omega arith
 
@@ -61,7 +60,7 @@ no_longer text = rw (bytewise_is text) (shorter text)
 -- no more lines are altered than there are, and there are no more than bytes
 
 changed_few : (n : ℕ) (lines : List (List ℕ)) → length (changed_from n lines) ≤ length lines
-unfolding changed_from if◌then◌else◌
+unfolding changed_from
 changed_few n [] = omega arith
 changed_few n (line ∷ lines) = go (changed line) refl (changed_few (suc n) lines)
   where
@@ -78,7 +77,7 @@ extended b [] = omega arith
 extended b (line ∷ lines) = omega arith
 
 pub few_lines : (text : List ℕ) → length (lines_of text) ≤ length text
-unfolding lines_of if◌then◌else◌
+unfolding lines_of
 few_lines [] = omega arith
 few_lines (b ∷ bs) = go (eqb b line_feed) refl (few_lines bs)
   where

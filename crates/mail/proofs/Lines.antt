@@ -1,4 +1,5 @@
 -- The lines of a repaired text are the repaired lines. Assumes nothing.
+use Rattle.std.proofs.Common.{if◌then◌else◌}
 use Prim.Native.Nat.{ℕ}
 use mathlib.Core.Path.{◌≡◌, refl, sym, ap, ◌∙◌}
 use mathlib.Core.Bool.{Bool, true, false, ◌&&◌, ◌||◌}
@@ -6,7 +7,6 @@ use mathlib.Core.List.{List, [], ◌∷◌, map}
 use borrow.Author.Tests.{eqb-true}
 use lib.Dec.{eqb}
 use lib.ListN.{length, drop}
-use Rattle.base.specs.Choice.{if◌then◌else◌}
 use Rattle.base.proofs.Choice.{if_false}
 use Rattle.text.specs.Text.{line_feed, first_line, extend_first, lines_of}
 use Rattle.text.proofs.Lines.{lines_first, lines_unfed, no_lines}
@@ -15,7 +15,7 @@ use Rattle.mail.specs.Bytewise.{space_first, feed_first, left_out, tabbed, bytew
 use Rattle.mail.proofs.Numbers.{feed_line}
 
 space_line : (text : List ℕ) → space_first (first_line text) ≡ space_first text
-unfolding first_line space_first if◌then◌else◌
+unfolding first_line space_first
 space_line [] = refl
 space_line (b ∷ bs) = go (eqb b line_feed) refl
   where
@@ -24,7 +24,7 @@ space_line (b ∷ bs) = go (eqb b line_feed) refl
     go false e = rw e
 
 tabbed_unfed : (b : ℕ) → eqb b line_feed ≡ false → eqb (tabbed b) line_feed ≡ false
-unfolding tabbed if◌then◌else◌
+unfolding tabbed
 tabbed_unfed b e = go (eqb b space) refl
   where
     go : (t : Bool) → eqb b space ≡ t → eqb (tabbed b) line_feed ≡ false
@@ -33,7 +33,7 @@ tabbed_unfed b e = go (eqb b space) refl
 
 more_lines : (t : Bool) (x : ℕ) (text line : List ℕ) (lines : List (List ℕ)) → eqb x line_feed ≡ false → lines_of text ≡ line ∷ lines →
     lines_of (if t then text else x ∷ text) ≡ (if t then line else x ∷ line) ∷ lines
-unfolding if◌then◌else◌ extend_first
+unfolding extend_first
 more_lines true x text line lines e h = h
 more_lines false x text line lines e h = lines_unfed x text e ∙ rw h
 
@@ -41,7 +41,7 @@ abbrev Kept : List ℕ → Type 0
 Kept text = lines_of (bytewise text) ≡ map bytewise (lines_of text)
 
 fed_kept : (bs : List ℕ) → Kept bs → Kept (10 ∷ bs)
-unfolding lines_of bytewise tabbed if◌then◌else◌
+unfolding lines_of bytewise tabbed
 fed_kept bs h = rw h
 
 none_out : (x y : Bool) → ((x && false) || (y && false)) ≡ false

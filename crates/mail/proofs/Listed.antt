@@ -9,7 +9,6 @@ use borrow.Author.Tests.{eq-eqb, le-leb, leb-true, ne_eqb}
 use lib.Dec.{leb}
 use lib.ListN.{get_or, length}
 use Rattle.base.proofs.Every.{both}
-use Rattle.base.specs.Choice.{if◌then◌else◌}
 use Rattle.text.specs.Text.{lines_of}
 use Rattle.mail.specs.Mail.{altered_lines, repaired}
 use Rattle.mail.specs.Bytewise.{bytewise, changed, changed_from}
@@ -19,7 +18,7 @@ use Rattle.mail.proofs.Lines.{lines_bytewise}
 use Rattle.mail.proofs.Runs.{bytewise_is, numbers_are}
 
 lower_missing : (k n : ℕ) (lines : List (List ℕ)) → k < n → listed k (changed_from n lines) ≡ false
-unfolding changed_from if◌then◌else◌
+unfolding changed_from
 lower_missing k n [] h = refl
 lower_missing k n (line ∷ lines) h = go (changed line) refl (lower_missing k (suc n) lines (omega arith))
   where
@@ -28,7 +27,7 @@ lower_missing k n (line ∷ lines) h = go (changed line) refl (lower_missing k (
     go false e m = rw e m
 
 listed_from : (n i : ℕ) (lines : List (List ℕ)) → i < length lines → listed (n + i) (changed_from n lines) ≡ changed (get_or lines i [])
-unfolding changed_from if◌then◌else◌
+unfolding changed_from
 listed_from n i [] h = absurd (not-suc-le-zero h)
 listed_from n zero (line ∷ lines) h = go (changed line) refl
   where
@@ -64,7 +63,7 @@ rises_from n [] = true
 rises_from n (x ∷ xs) = leb n x && rises_from (suc x) xs
 
 rising_from : (m n : ℕ) (lines : List (List ℕ)) → m ≤ n → rises_from m (changed_from n lines) ≡ true
-unfolding changed_from if◌then◌else◌
+unfolding changed_from
 rising_from m n [] h = refl
 rising_from m n (line ∷ lines) h =
     go (changed line) refl (rising_from (suc n) (suc n) lines (omega arith)) (rising_from m (suc n) lines (omega arith))
@@ -79,7 +78,7 @@ rising text = rw (numbers_are text) (rising_from 1 1 (lines_of text) (omega arit
 
 -- and no number but those of lines
 higher_missing : (k n : ℕ) (lines : List (List ℕ)) → n + length lines ≤ k → listed k (changed_from n lines) ≡ false
-unfolding changed_from if◌then◌else◌
+unfolding changed_from
 higher_missing k n [] h = refl
 higher_missing k n (line ∷ lines) h = go (changed line) refl (higher_missing k (suc n) lines (omega arith))
   where

@@ -5,7 +5,6 @@ use mathlib.Core.Bool.{Bool, true, false}
 use mathlib.Core.List.{List, [], ◌∷◌}
 use lib.Dec.{eqb}
 use lib.ListN.{get_or}
-use Rattle.base.specs.Choice.{if◌then◌else◌}
 use Rattle.base.proofs.Choice.{never}
 use Rattle.mail.specs.Mail.{repaired}
 use Rattle.mail.specs.Bytewise.{space_first, feed_first, tabbed, bytewise}
@@ -41,7 +40,7 @@ abbrev NoReturn : List ℕ → Type 0
 NoReturn text = (i : ℕ) → eqb (get_or text i 0) 13 ≡ false
 
 made_by_mail : (came : List ℕ) → NoReturn (bytewise came) → Mailed (bytewise came) came
-unfolding bytewise tabbed if◌then◌else◌
+unfolding bytewise tabbed
 made_by_mail [] h = nothing
 made_by_mail (b ∷ bs) h = go (kind b) h (made_by_mail bs) (space_first bs) refl (feed_first bs) refl
   where

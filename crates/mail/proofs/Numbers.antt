@@ -1,4 +1,5 @@
 -- The numbers of altered lines, with more in front of a text. Assumes nothing.
+use Rattle.std.proofs.Common.{if◌then◌else◌}
 use Prim.Native.Nat.{ℕ, suc}
 use mathlib.Core.Path.{◌≡◌, refl, ◌∙◌}
 use mathlib.Core.Bool.{Bool, true, false, not, ◌&&◌, ◌||◌}
@@ -6,7 +7,6 @@ use mathlib.Core.List.{List, [], ◌∷◌}
 use borrow.Author.Tests.{eqb-true}
 use lib.Dec.{eqb}
 use lib.ListN.{drop}
-use Rattle.base.specs.Choice.{if◌then◌else◌}
 use Rattle.text.specs.Text.{line_feed, first_line, extend_first, lines_of, same_bytes}
 use Rattle.text.proofs.Lines.{lines_first, lines_unfed}
 use Rattle.mail.specs.Bytewise.{feed_first, bytewise, tabbed, changed, changed_from, numbers_of, later_numbers}
@@ -15,7 +15,7 @@ use Rattle.mail.proofs.Altering.{altered, changed_is}
 
 -- what counts for a byte stands in its own line
 pub feed_line : (text : List ℕ) → feed_first (first_line text) ≡ feed_first text
-unfolding first_line feed_first if◌then◌else◌
+unfolding first_line feed_first
 feed_line [] = refl
 feed_line (b ∷ bs) = go (kind b) (feed_line bs)
   where
@@ -31,7 +31,7 @@ changed_more b bs =
     changed_is (b ∷ first_line bs) ∙ rw (feed_line bs, changed_is (first_line bs))
 
 pub changed_first : (b : ℕ) (bs : List ℕ) → changed (first_line (b ∷ bs)) ≡ (not (eqb b line_feed) && (altered b (feed_first bs) || changed (first_line bs)))
-unfolding first_line if◌then◌else◌ changed same_bytes bytewise tabbed
+unfolding first_line changed same_bytes bytewise tabbed
 changed_first b bs = go (eqb b line_feed) refl
   where
     go : (t : Bool) → eqb b line_feed ≡ t → changed (first_line (b ∷ bs)) ≡ (not (eqb b line_feed) && (altered b (feed_first bs) || changed (first_line bs)))
@@ -40,7 +40,7 @@ changed_first b bs = go (eqb b line_feed) refl
 
 -- the first line's number, if it changes, in front of the others'
 pub numbers_first : (n : ℕ) (text : List ℕ) → numbers_of n text ≡ (if changed (first_line text) then n ∷ later_numbers (suc n) text else later_numbers (suc n) text)
-unfolding lines_of first_line changed_from changed same_bytes bytewise if◌then◌else◌
+unfolding lines_of first_line changed_from changed same_bytes bytewise
 numbers_first n [] = refl
 numbers_first n (b ∷ bs) = rw (lines_first b bs)
 

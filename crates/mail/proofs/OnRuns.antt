@@ -5,7 +5,6 @@ use mathlib.Core.Bool.{false}
 use mathlib.Core.List.{List, [], ◌∷◌, ◌++◌}
 use lib.Dec.{eqb}
 use lib.ListN.{replicate}
-use Rattle.base.specs.Choice.{if◌then◌else◌}
 use Rattle.text.specs.Text.{line_feed, tab}
 use Rattle.mail.specs.Mail.{space, carriage_return, repaired}
 use Rattle.mail.specs.Bytewise.{space_first, feed_first, tabbed, bytewise}
@@ -26,7 +25,7 @@ no_feed (b ∷ bs) c f = rw (c, f)
 
 -- byte by byte
 spaces_run : (n : ℕ) (rest : List ℕ) → space_first rest ≡ false → bytewise (replicate (suc n) space ++ rest) ≡ tab ∷ bytewise rest
-unfolding bytewise tabbed if◌then◌else◌ space_first
+unfolding bytewise tabbed space_first
 spaces_run zero rest e = rw e
 spaces_run (suc n) rest e = spaces_run n rest e
 
@@ -36,12 +35,12 @@ still_no_feed zero rest e = e
 still_no_feed (suc n) rest e = still_no_feed n rest e
 
 returns_stay : (n : ℕ) (rest : List ℕ) → feed_first rest ≡ false → bytewise (replicate n carriage_return ++ rest) ≡ replicate n carriage_return ++ bytewise rest
-unfolding bytewise tabbed if◌then◌else◌
+unfolding bytewise tabbed
 returns_stay zero rest e = refl
 returns_stay (suc n) rest e = rw (still_no_feed n rest e) (ap (λ l. carriage_return ∷ l) (returns_stay n rest e))
 
 other_stays : (b : ℕ) (rest : List ℕ) → eqb b space ≡ false → eqb b carriage_return ≡ false → bytewise (b ∷ rest) ≡ b ∷ bytewise rest
-unfolding bytewise tabbed if◌then◌else◌
+unfolding bytewise tabbed
 other_stays b rest p q = simp (p, q)
 
 nothing_bytewise : bytewise [] ≡ []

@@ -1,4 +1,5 @@
 -- What a text is repaired to, with one step's bytes in front of it. Assumes nothing.
+use Rattle.std.proofs.Common.{if◌then◌else◌}
 use Prim.Native.Nat.{ℕ, zero, suc, ◌+◌}
 use mathlib.Core.Path.{◌≡◌, refl, sym, ap, ◌∙◌}
 use mathlib.Core.Bool.{Bool, true, false, not, ◌&&◌, ◌||◌}
@@ -7,7 +8,6 @@ use native.Mathlib.Omega.{arith}
 use borrow.Author.Tests.{eqb-true, lt-ltb}
 use lib.Dec.{eqb, ltb}
 use lib.ListN.{length, drop, replicate, length-append, length-replicate}
-use Rattle.base.specs.Choice.{if◌then◌else◌}
 use Rattle.text.specs.Text.{line_feed, first_line}
 use Rattle.text.proofs.Lines.{lines_fed}
 use Rattle.mail.specs.Mail.{space, carriage_return}
@@ -37,7 +37,7 @@ fed_first zero text = refl
 fed_first (suc k) text = fed_first k text
 
 pub fed_bytes : (k : ℕ) (text : List ℕ) → bytewise (fed k text) ≡ line_feed ∷ bytewise text
-unfolding bytewise tabbed if◌then◌else◌
+unfolding bytewise tabbed
 fed_bytes zero text = refl
 fed_bytes (suc k) text = rw (fed_first k text) (fed_bytes k text)
 
@@ -65,7 +65,7 @@ fed_length k text = length-append (replicate k carriage_return) (line_feed ∷ t
 -- another byte, which stays unless it is a space with a space behind it
 pub byte_kept : (b : ℕ) (text : List ℕ) → (eqb b carriage_return ≡ true → feed_first text ≡ false) →
     bytewise (b ∷ text) ≡ (if eqb b space && space_first text then bytewise text else tabbed b ∷ bytewise text)
-unfolding bytewise if◌then◌else◌
+unfolding bytewise
 byte_kept b text settled = go (kind b) settled (space_first text) refl
   where
     go : {b : ℕ} → Kind b → (eqb b carriage_return ≡ true → feed_first text ≡ false) → (s : Bool) → space_first text ≡ s
@@ -98,7 +98,7 @@ byte_feed b text e settled = rw e (go (eqb b carriage_return) refl)
 -- either
 module _ {b : ℕ} {text more : List ℕ} (o : Over b text more) where
   pub over_bytes : bytewise more ≡ (if eqb b space && space_first text then bytewise text else tabbed b ∷ bytewise text)
-  unfolding tabbed if◌then◌else◌
+  unfolding tabbed
   over_bytes =
       over_cases
       (λ b more. bytewise more ≡ (if eqb b space && space_first text then bytewise text else tabbed b ∷ bytewise text))
@@ -109,7 +109,6 @@ module _ {b : ℕ} {text more : List ℕ} (o : Over b text more) where
   pub over_numbers : (n : ℕ) →
       later_numbers n more
       ≡ (if not (eqb b line_feed && changed (first_line text)) then later_numbers (plus_if (eqb b line_feed) n) text else n ∷ later_numbers (plus_if (eqb b line_feed) n) text)
-  unfolding if◌then◌else◌
   over_numbers n =
       over_cases
       (λ b more. later_numbers n more

@@ -7,7 +7,6 @@ use native.Mathlib.Omega.{arith}
 use lib.Dec.{eqb}
 use lib.ListN.{length, get_or, set}
 use lib.Seq.{set-get_or}
-use Rattle.base.specs.Choice.{if◌then◌else◌}
 use Rattle.base.proofs.Every.{both}
 use Rattle.text.specs.Text.{tab}
 use Rattle.mail.specs.Mail.{space}
@@ -22,7 +21,7 @@ pushed_inside false at r buffer h e = omega (arith, h.room.inside)
 -- the tab that stands there is written again
 pub pushed_byte : (b : ℕ) (spaced : Bool) (at r : ℕ) (buffer : List ℕ) → RoomForByte (eqb b space && spaced) at buffer → at ≡ plus_if (not (eqb b space && spaced)) r →
     Pushed (eqb b space && spaced) (tabbed b) at buffer (set buffer r (tabbed b)) r
-unfolding tabbed if◌then◌else◌
+unfolding tabbed
 pushed_byte b spaced at r buffer h e = go (eqb b space && spaced) refl h e
   where
     again : eqb b space ≡ true → get_or buffer r 0 ≡ tab → set buffer r (tabbed b) ≡ buffer

@@ -6,7 +6,6 @@ use mathlib.Core.List.{List}
 use native.Mathlib.Omega.{arith}
 use lib.Dec.{eqb}
 use lib.ListN.{length, set}
-use Rattle.base.specs.Choice.{if◌then◌else◌}
 use Rattle.text.specs.Text.{line_feed}
 use Rattle.mail.specs.Mail.{space}
 use Rattle.mail.specs.Bytewise.{tabbed}
@@ -29,7 +28,7 @@ module _ (book buffer list : List ℕ) (filled : Filled) (p : Placeable book buf
     pub feed_put : (next : Place) (list' : List ℕ) (r : ℕ) → Stepped book line_feed filled.place next →
         Pushed (not filled.place.altered) filled.line filled.lines list list' r →
         PutOver book filled (record { place = next; bytes = filled.bytes - 1; lines = r; line = filled.line - 1 }) buffer (set buffer (filled.bytes - 1) line_feed) list list'
-    unfolding tabbed if◌then◌else◌
+    unfolding tabbed
     feed_put next list' r s q =
         record {
           stepped = rw e s;

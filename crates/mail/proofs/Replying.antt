@@ -6,7 +6,7 @@ use mathlib.Core.List.{List, []}
 use borrow.Author.Tests.{lt-ltb, le-ltb}
 use lib.Dec.{eqb}
 use lib.ListN.{length}
-use Rattle.base.proofs.Choice.{if_true, if_false}
+use Rattle.base.proofs.Choice.{if_false}
 use Rattle.base.proofs.FirstMet.{met_first, not_met, none_met}
 use Rattle.base.specs.Writing.{overwrite}
 use Rattle.text.specs.Text.{book_limit}
@@ -21,7 +21,7 @@ left_alone n xs e = if_false _ _ _ e
 
 whole : (xs : List ℕ) → unless_refused 0 xs ≡ xs
 unfolding unless_refused
-whole xs = if_true _ _ _ refl
+whole xs = refl
 
 pub too_long : (book : List ℕ) (room places : ℕ) → book_limit < length book → repair_refusal book room places ≡ 10
 unfolding repair_refusal repair_tests

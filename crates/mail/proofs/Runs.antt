@@ -1,11 +1,11 @@
 -- What is said of runs and of lines is what is found byte by byte. Assumes nothing.
+use Rattle.std.proofs.Common.{if◌then◌else◌}
 use Prim.Native.Nat.{ℕ, suc}
 use mathlib.Core.Path.{◌≡◌, refl, sym, ap, ◌∙◌}
 use mathlib.Core.Bool.{Bool, true, false, ◌&&◌, ◌||◌}
 use mathlib.Core.List.{List, [], ◌∷◌, map}
 use borrow.Author.Tests.{eqb-true, eq-eqb, ne_eqb}
 use lib.Dec.{eqb}
-use Rattle.base.specs.Choice.{if◌then◌else◌}
 use Rattle.base.proofs.Choice.{never}
 use Rattle.text.specs.Text.{line_feed, lines_of, same_bytes}
 use Rattle.mail.specs.Mail.{space, carriage_return, Run, in_front, runs_of, ends_at_feed, repaired_run, repaired_runs, repaired, differing, altered_lines}
@@ -34,11 +34,11 @@ or_none false = refl
 
 -- a byte in front of a run of the same, and of another one
 same_front : (b n : ℕ) (runs : List Run) → in_front b (long b n ∷ runs) ≡ long b (suc n) ∷ runs
-unfolding in_front if◌then◌else◌
+unfolding in_front
 same_front b n runs = rw (eq-eqb b b refl)
 
 other_front : (b c n : ℕ) (runs : List Run) → eqb b c ≡ false → in_front b (long c n ∷ runs) ≡ long b 1 ∷ long c n ∷ runs
-unfolding in_front if◌then◌else◌
+unfolding in_front
 other_front b c n runs e = rw e
 
 -- a proof about a byte in front of runs goes by these
@@ -79,7 +79,7 @@ feed_front b runs =
 -- a byte in front of runs
 front_repaired : (b : ℕ) (runs : List Run) →
     repaired_runs (in_front b runs) ≡ (if left_out b (space_run runs) (feed_run runs) then repaired_runs runs else tabbed b ∷ repaired_runs runs)
-unfolding repaired_runs repaired_run ends_at_feed tabbed if◌then◌else◌
+unfolding repaired_runs repaired_run ends_at_feed tabbed
 front_repaired b runs =
     front_cases
     (λ b runs more. repaired_runs more ≡ (if left_out b (space_run runs) (feed_run runs) then repaired_runs runs else tabbed b ∷ repaired_runs runs))
@@ -141,7 +141,7 @@ bytewise_is (b ∷ bs) = front_repaired b (runs_of bs) ∙ rw (space_runs bs, fe
 
 -- the lines that differ are those that change
 differing_changed : (n : ℕ) (lines : List (List ℕ)) → differing n lines (map bytewise lines) ≡ changed_from n lines
-unfolding differing changed_from changed if◌then◌else◌
+unfolding differing changed_from changed
 differing_changed n [] = refl
 differing_changed n (line ∷ lines) = go (same_bytes line (bytewise line)) refl (differing_changed (suc n) lines)
   where

@@ -1,4 +1,5 @@
 -- The sizes of what a text is repaired to, with one step's bytes in front of it. Assumes nothing.
+use Rattle.std.proofs.Common.{if◌then◌else◌}
 use Prim.Native.Nat.{ℕ, suc, ◌+◌, ◌-◌, ◌<◌, ◌≤◌}
 use mathlib.Core.Path.{◌≡◌, refl, sym, ap, ◌∙◌}
 use mathlib.Core.Bool.{Bool, true, false, not, ◌&&◌}
@@ -8,7 +9,6 @@ use native.Mathlib.Numerals.{add-one}
 use lib.Dec.{eqb}
 use lib.ListN.{length, drop, get_or, length-drop}
 use lib.Seq.{drop-length}
-use Rattle.base.specs.Choice.{if◌then◌else◌}
 use Rattle.text.specs.Text.{line_feed, first_line, lines_of}
 use Rattle.mail.specs.Mail.{space}
 use Rattle.mail.specs.Bytewise.{space_first, tabbed, bytewise, changed, changed_from, later_numbers}
@@ -25,7 +25,6 @@ unfolding bytewise lines_of changed_from feeds
 none_sized = record { bytes = refl; lines = λ n. refl; feeding = refl; few_lines = omega arith; few_feeds = omega arith }
 
 length_unless : (t : Bool) (x : ℕ) (xs : List ℕ) → length (if t then xs else x ∷ xs) ≡ plus_if (not t) (length xs)
-unfolding if◌then◌else◌
 length_unless true x xs = refl
 length_unless false x xs = refl
 
@@ -67,7 +66,7 @@ module _ {b : ℕ} {text more : List ℕ} (o : Over b text more) (sizes : Sizes)
   -- over a line feed
   pub sized_feed : (a : Bool) → a ≡ changed (first_line text) → b ≡ line_feed →
       Sized more (record { dropped = sizes.dropped + o.returns; lines = plus_if a sizes.lines; feeds = sizes.feeds + 1 })
-  unfolding tabbed if◌then◌else◌
+  unfolding tabbed
   sized_feed a e fed =
       record {
         bytes = rw (over_bytes o, fed) (omega (arith, over_length o, h.bytes));
@@ -80,7 +79,6 @@ module _ {b : ℕ} {text more : List ℕ} (o : Over b text more) (sizes : Sizes)
 -- the whole book: its first line is counted too
 pub whole_sized : (book : List ℕ) (sizes : Sizes) (a : Bool) → a ≡ changed (first_line book) → Sized book sizes →
     Measured book (record { dropped = sizes.dropped; lines = plus_if a sizes.lines; feeds = sizes.feeds })
-unfolding if◌then◌else◌
 whole_sized book sizes a e h =
     record {
       bytes = h.bytes;

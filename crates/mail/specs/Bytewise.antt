@@ -1,7 +1,6 @@
 -- What `Mail` says of runs and lines, byte by byte, as both passes find it from the end of a text to its start: what stands behind a byte
 -- decides about it. `bytewise_is` and `numbers_are` say that it is the same.
-use Rattle.std.specs.Prelude.{ℕ, suc, Bool, false, not, ◌&&◌, ◌||◌, List, [], ◌∷◌, eqb, drop}
-use Rattle.base.specs.Choice.{if◌then◌else◌}
+use Rattle.std.specs.Prelude.{ℕ, suc, Bool, false, not, ◌&&◌, ◌||◌, List, [], ◌∷◌, eqb, drop, if◌then◌else◌}
 use Rattle.text.specs.Text.{tab, line_feed, lines_of, same_bytes}
 use Rattle.mail.specs.Mail.{space, carriage_return}
 

@@ -1,6 +1,5 @@
 -- Books that came by mail, as runs of bytes and as lines. 02: L14
-use Rattle.std.specs.Prelude.{ℕ, suc, Bool, false, ◌&&◌, List, [], ◌∷◌, ◌++◌, eqb, replicate}
-use Rattle.base.specs.Choice.{if◌then◌else◌}
+use Rattle.std.specs.Prelude.{ℕ, suc, Bool, false, ◌&&◌, List, [], ◌∷◌, ◌++◌, eqb, replicate, if◌then◌else◌}
 use Rattle.text.specs.Text.{tab, line_feed, lines_of, same_bytes}
 
 -- byte " "

@@ -1,6 +1,5 @@
 -- The reply to a mailed book, and both lent lists afterwards. 02: L14
-use Rattle.std.specs.Prelude.{ℕ, ◌≡◌, List, [], ◌∷◌, eqb, ltb, length}
-use Rattle.base.specs.Choice.{if◌then◌else◌}
+use Rattle.std.specs.Prelude.{ℕ, ◌≡◌, List, [], ◌∷◌, eqb, ltb, length, if◌then◌else◌}
 use Rattle.base.specs.FirstMet.{Test, ◌when◌, first_met}
 use Rattle.base.specs.Writing.{overwrite}
 use Rattle.text.specs.Text.{book_limit}

@@ -2,7 +2,6 @@
 use Prim.Native.Nat.{ℕ}
 use mathlib.Core.List.{List}
 use Rattle.base.specs.Any.{any, any_two}
-use Rattle.base.specs.Choice.{if◌then◌else◌}
 use Rattle.base.specs.FirstMet.{first_or}
 use Rattle.base.specs.Least.{least, between}
 use Rattle.base.specs.Range.{within}
@@ -31,5 +30,5 @@ use Rattle.netting.specs.declared.set.NettingReply.{NettingReply}
 use Rattle.netting.specs.declared.terms.SetTerms.{SetTerms}
 
 unfoldable pub computed : SetTerms → ℕ → List Position → NettingReply
-unfolding reply_to any any_two if◌then◌else◌ first_or least between within round_up sum_of eligible bank_debt_eligible equity_or_gold row_of band_of issuer_column debt_haircut haircut lent_haircut table_of band_of_2023 counterparty_weight_2023 debt_haircut_2023 haircut_2023 lent_haircut_2023 other_issuers_haircut_2023 own_weight_2023 table_weight_2023 at_least_sovereign counterparty_weight has_floor own_weight step_column table_weight scaled risk_weighted_amount asset_step_allowed life_allowed party_step_allowed party_steps_allowed sovereign_step_allowed ◌less◌ ceiling at_least_zero currency_add_on currency_figure exposure exposure_after_netting net_exposure security_add_on security_figure currency_haircut_over security_haircut set_period lent net only received sum_once fields_of_each position_tests security_allowed disagree received_not_eligible set_refusal set_tests tests_over_all set_weight weighted_amount set_terms_tests
+unfolding reply_to any any_two first_or least between within round_up sum_of eligible bank_debt_eligible equity_or_gold row_of band_of issuer_column debt_haircut haircut lent_haircut table_of band_of_2023 counterparty_weight_2023 debt_haircut_2023 haircut_2023 lent_haircut_2023 other_issuers_haircut_2023 own_weight_2023 table_weight_2023 at_least_sovereign counterparty_weight has_floor own_weight step_column table_weight scaled risk_weighted_amount asset_step_allowed life_allowed party_step_allowed party_steps_allowed sovereign_step_allowed ◌less◌ ceiling at_least_zero currency_add_on currency_figure exposure exposure_after_netting net_exposure security_add_on security_figure currency_haircut_over security_haircut set_period lent net only received sum_once fields_of_each position_tests security_allowed disagree received_not_eligible set_refusal set_tests tests_over_all set_weight weighted_amount set_terms_tests
 computed t count ps = reply_to t count ps

@@ -1,4 +1,5 @@
 -- The laws of sums that count each number once. Assumes nothing.
+use Rattle.std.proofs.Common.{if◌then◌else◌}
 use Prim.Native.Nat.{ℕ, ◌+◌, ◌*◌, ◌≤◌, ◌<◌}
 use mathlib.Core.Path.{◌≡◌, refl, ap, ◌∙◌}
 use mathlib.Core.Bool.{Bool, true, false, ◌||◌}
@@ -7,7 +8,6 @@ use native.Mathlib.Omega.{arith}
 use lib.Dec.{eqb}
 use lib.ListN.{length, take, drop, get_or}
 use borrow.Author.Tests.{eqb-true, eq-eqb}
-use Rattle.base.specs.Choice.{if◌then◌else◌}
 use Rattle.base.specs.Sum.{sum_of}
 use Rattle.base.proofs.Compare.{eqb_turned}
 use Rattle.base.proofs.Choice.{if_true, if_false, either, either₂}
@@ -24,12 +24,10 @@ by_test e a = rw e
 
 -- either one or the other
 pub one_of : (t : Bool) (a : ℕ) → (if t then 0 else a) + (if t then a else 0) ≡ a
-unfolding if◌then◌else◌
 one_of true a = omega arith
 one_of false a = omega arith
 
 zero_of : (t : Bool) → ◌≡◌ {A = ℕ} (if t then 0 else 0) 0
-unfolding if◌then◌else◌
 zero_of true = refl
 zero_of false = refl
 
@@ -105,7 +103,7 @@ module _ {A : Type 0} (number : A → ℕ) where
 
   -- a figure of one number counts at most once
   pub once_at : (k a : ℕ) (xs : List A) → sum_once number (only (at k) (λ x. a)) xs ≡ (if occurs number k xs then a else 0)
-  unfolding sum_once any only if◌then◌else◌
+  unfolding sum_once any only
   once_at k a [] = refl
   once_at k a (x ∷ xs) = go (eqb (number x) k) refl (once_at k a xs)
     where

@@ -2,7 +2,6 @@
 use Prim.Native.Nat.{◌+◌, ◌≤◌}
 use mathlib.Core.Path.{◌≡◌}
 use native.Mathlib.Omega.{arith}
-use Rattle.base.specs.Choice.{if◌then◌else◌}
 use Rattle.tables.specs.Kinds.{repo_style}
 use Rattle.tables.proofs.EditionBounds.{lent_low}
 use Rattle.scaling.specs.Period.{holding_period, minimum_period}
@@ -13,7 +12,7 @@ use Rattle.netting.specs.declared.terms.SetTerms.{SetTerms}
 
 -- "n is interval plus 4": the period of a repo-style transaction
 pub repo_period : (t : SetTerms) → holding_period repo_style t.interval ≡ set_period t
-unfolding holding_period minimum_period set_period if◌then◌else◌
+unfolding holding_period minimum_period set_period
 repo_period t = omega arith
 
 module _ (t : SetTerms) where

@@ -1,4 +1,5 @@
 -- Nets summed one position at a time, and their range. Assumes nothing.
+use Rattle.std.proofs.Common.{if◌then◌else◌}
 use Prim.Native.Nat.{ℕ, ◌+◌, ◌≤◌, ◌<◌}
 use mathlib.Core.Path.{◌≡◌, refl, sym, ◌∙◌}
 use mathlib.Core.Bool.{Bool, true, false}
@@ -8,7 +9,6 @@ use lib.IntN.{ℤ, pos, nat_abs, ◌+ℤ◌}
 use lib.ListN.{length, take, get_or}
 use mir.Syntax.{w64}
 use mir.Val.{SFits}
-use Rattle.base.specs.Choice.{if◌then◌else◌}
 use Rattle.base.specs.Sum.{sum_of}
 use Rattle.base.proofs.Choice.{if_true, if_false}
 use Rattle.base.proofs.Sum.{sum_part, sum_take, sum_mono, sum_add, sum_eq}
@@ -75,7 +75,7 @@ module _ (counts : Position → Bool) where
 
   -- one position more
   by_sides : (p : Position) → signed_amount (counts p) p ≡ only counts lent p less only counts received p
-  unfolding only if◌then◌else◌
+  unfolding only
   by_sides p = go (counts p)
     where
       go : (t : Bool) → (if t then lent p less received p else pos 0) ≡ (if t then lent p else 0) less (if t then received p else 0)

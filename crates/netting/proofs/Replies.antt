@@ -1,11 +1,11 @@
 -- The reply by cases, and the room that an accepted set leaves. Assumes nothing.
+use Rattle.std.proofs.Common.{if◌then◌else◌}
 use Prim.Native.Nat.{ℕ, ◌<◌}
 use mathlib.Core.Path.{◌≡◌, refl, sym, ap, ap₂, ◌∙◌}
 use mathlib.Core.Bool.{Bool, true, false}
 use mathlib.Core.List.{List}
 use lib.Dec.{eqb}
 use borrow.Author.Tests.{eq-eqb, eqb-true}
-use Rattle.base.specs.Choice.{if◌then◌else◌}
 use Rattle.base.proofs.Choice.{if_true, if_false}
 use Rattle.netting.specs.Exposure.{exposure_after_netting}
 use Rattle.netting.specs.Limits.{Fitting}
@@ -46,8 +46,8 @@ pub many_alike : (t : SetTerms) (n : ℕ) (ps qs : List Position) → 32 < n →
 many_alike t n ps qs h = refused_reply_lem t n ps (some ps) ∙ same_refused alike ∙ sym (refused_reply_lem t n qs (some qs))
   where
     by_terms : (rs : List Position) (b : Bool) → eqb (set_terms_refusal t) 0 ≡ b → set_refusal t n rs ≡ (if b then 6 else set_terms_refusal t)
-    by_terms rs true e = too_many t n rs (eqb-true _ 0 e) h ∙ sym (if_true true 6 _ refl)
-    by_terms rs false e = terms_refused t n rs e ∙ sym (if_false false 6 _ refl)
+    by_terms rs true e = too_many t n rs (eqb-true _ 0 e) h ∙ sym (if_true true 6 (set_terms_refusal t) refl)
+    by_terms rs false e = terms_refused t n rs e ∙ sym (if_false false 6 (set_terms_refusal t) refl)
 
     alike : set_refusal t n ps ≡ set_refusal t n qs
     alike = by_terms ps _ refl ∙ sym (by_terms qs _ refl)

@@ -1,7 +1,6 @@
 -- E* of a netting set. 02: L6; CRE22.72, E* = max {0, [Σ E − Σ C + Σ (E_s × H_s) + Σ (E_fx × H_fx)]}. Haircuts are scaled, in millionths: `haircut p` is
 -- that of a position's security, fx that of currencies, `settlement` the settlement currency
-use Rattle.std.specs.Prelude.{ℕ, ◌+◌, ◌*◌, min, List, eqb, ℤ, nat_abs}
-use Rattle.base.specs.Choice.{if◌then◌else◌}
+use Rattle.std.specs.Prelude.{ℕ, ◌+◌, ◌*◌, min, List, eqb, ℤ, nat_abs, if◌then◌else◌}
 use Rattle.base.specs.Sum.{sum_of}
 use Rattle.signed.specs.Signed.{◌less◌, at_least_zero, ceiling}
 use Rattle.netting.specs.Groups.{member}

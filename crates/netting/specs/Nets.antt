@@ -1,6 +1,5 @@
 -- Signed nets of a netting set. 02: L6, "Net each security and each currency other than settlement as a signed sum"; CRE22.72
-use Rattle.std.specs.Prelude.{ℕ, Bool, List, ℤ}
-use Rattle.base.specs.Choice.{if◌then◌else◌}
+use Rattle.std.specs.Prelude.{ℕ, Bool, List, ℤ, if◌then◌else◌}
 use Rattle.base.specs.Sum.{sum_of}
 use Rattle.signed.specs.Signed.{◌less◌}
 use Rattle.netting.specs.Positions.{is_lent}

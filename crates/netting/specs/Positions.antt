@@ -1,7 +1,6 @@
 -- One position of a netting set, and what its own fields are refused for. 02: L6, "up to 32 positions: side (1 lent, 2 received), amount, security
 -- number 0 to 999 (0 for cash and for nothing else), type, step, issue life, currency"
-use Rattle.std.specs.Prelude.{ℕ, Bool, true, ◌&&◌, List, [], ◌∷◌, ◌++◌, eqb}
-use Rattle.base.specs.Choice.{if◌then◌else◌}
+use Rattle.std.specs.Prelude.{ℕ, Bool, true, ◌&&◌, List, [], ◌∷◌, ◌++◌, eqb, if◌then◌else◌}
 use Rattle.base.specs.FirstMet.{Test, first_met}
 use Rattle.base.specs.Range.{within}
 use Rattle.tables.specs.Goods.{cash}

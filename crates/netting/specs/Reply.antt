@@ -1,6 +1,5 @@
 -- The reply to a netting set. 02: L6
-use Rattle.std.specs.Prelude.{ℕ, ◌*◌, List, eqb, take}
-use Rattle.base.specs.Choice.{if◌then◌else◌}
+use Rattle.std.specs.Prelude.{ℕ, ◌*◌, List, eqb, take, if◌then◌else◌}
 use Rattle.tables.specs.Table.{table_of}
 use Rattle.valuation.specs.Exposure.{risk_weighted_amount}
 use Rattle.netting.specs.Exposure.{exposure_after_netting}

@@ -1,6 +1,5 @@
 // Signed nets: lent less received.
-ghost use Rattle.std.specs.Prelude.{◌≡◌, ◌≤◌, pos, take};
-ghost use Rattle.base.specs.Choice.{if◌then◌else◌};
+ghost use Rattle.std.specs.Prelude.{◌≡◌, ◌≤◌, pos, take, if◌then◌else◌};
 ghost use Rattle.base.specs.Sum.{sum_of};
 ghost use Rattle.signed.specs.Signed.{◌less◌};
 ghost use Rattle.netting.specs.Groups.{member};

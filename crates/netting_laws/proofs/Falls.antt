@@ -1,4 +1,5 @@
 -- E* where one received position is larger, one more is received, haircuts are smaller, or only the lent positions are kept. Assumes nothing.
+use Rattle.std.proofs.Common.{if◌then◌else◌}
 use Prim.Native.Nat.{ℕ, ◌+◌, ◌*◌, ◌-◌, ◌≤◌, min}
 use mathlib.Core.Path.{◌≡◌, refl, sym, ap, ap₂, ◌∙◌}
 use mathlib.Core.Bool.{Bool, true, false}
@@ -8,7 +9,6 @@ use native.Mathlib.Decide.{ℕ_discrete}
 use native.Mathlib.Omega.{arith}
 use lib.Dec.{eqb}
 use lib.IntN.{nat_abs}
-use Rattle.base.specs.Choice.{if◌then◌else◌}
 use Rattle.base.specs.Rounding.{round_up}
 use Rattle.base.specs.Sum.{sum_of}
 use Rattle.base.proofs.Choice.{if_true, if_false, either, either₂}

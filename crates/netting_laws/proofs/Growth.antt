@@ -1,4 +1,5 @@
 -- How far the absolute nets grow where one received amount grows. Assumes nothing.
+use Rattle.std.proofs.Common.{if◌then◌else◌}
 use Prim.Native.Nat.{ℕ, ◌+◌, ◌*◌, ◌≤◌}
 use mathlib.Core.Path.{◌≡◌, refl, ap}
 use mathlib.Core.Bool.{Bool, true, false}
@@ -7,7 +8,6 @@ use native.Mathlib.Nat.{mul-le-mul_left, mul-le-mul_right}
 use native.Mathlib.Omega.{arith}
 use lib.Dec.{eqb}
 use lib.IntN.{nat_abs}
-use Rattle.base.specs.Choice.{if◌then◌else◌}
 use Rattle.base.specs.Sum.{sum_of}
 use Rattle.base.proofs.Choice.{if_false, either, either₂}
 use Rattle.base.proofs.Sum.{sum_middle}
@@ -43,7 +43,6 @@ same_groups (Group.Currency k) p d = refl
 same_groups Group.All p d = refl
 
 split_choice : (t : Bool) (a d : ℕ) → (if t then (a + d) else 0) ≡ (if t then a else 0) + (if t then d else 0)
-unfolding if◌then◌else◌
 split_choice true a d = refl
 split_choice false a d = omega arith
 
@@ -80,7 +79,6 @@ module _ (xs ys : List Position) (p : Position) (r : is_lent p ≡ false) where
 
 -- a product with a number that has grown
 grown : (t : Bool) (n n' d c w : ℕ) → n' ≤ n + (if t then d else 0) → c ≤ w → n' * c ≤ n * c + (if t then (d * w) else 0)
-unfolding if◌then◌else◌
 grown true n n' d c w h k = omega (arith, mul-le-mul_right c h, mul-le-mul_left d k)
 grown false n n' d c w h k = omega (arith, mul-le-mul_right c h)
 

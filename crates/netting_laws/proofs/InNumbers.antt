@@ -1,4 +1,5 @@
 -- E* of an accepted set in natural numbers alone: sides by their numbers, absolute differences, sums over all securities and currencies. Assumes nothing.
+use Rattle.std.proofs.Common.{if◌then◌else◌}
 use Prim.Native.Nat.{ℕ, suc, ◌+◌, ◌*◌, ◌-◌, min}
 use mathlib.Core.Path.{◌≡◌, refl, ap, ap₂, ◌∙◌}
 use mathlib.Core.Bool.{Bool, true, false, ◌&&◌}
@@ -8,7 +9,6 @@ use native.Mathlib.Omega.{arith}
 use lib.Dec.{eqb}
 use lib.IntN.{nat_abs}
 use borrow.Author.Tests.{eq-eqb, ne_eqb}
-use Rattle.base.specs.Choice.{if◌then◌else◌}
 use Rattle.base.specs.Each.{Each}
 use Rattle.base.specs.Rounding.{round_up}
 use Rattle.base.specs.Sum.{sum_of}
@@ -57,7 +57,7 @@ formula t ps =
 -- by side, for a position on one of the two
 module _ (counts : Position → Bool) (p : Position) (plain : PlainPosition p) where
   lent_on : only counts lent p ≡ (if (eqb p.side 1 && counts p) then p.amount else 0)
-  unfolding only lent if◌then◌else◌
+  unfolding only lent
   lent_on = go (eqb p.side 1) (counts p)
     where
       go : (s c : Bool) → (if c then (if s then p.amount else 0) else 0) ≡ (if (s && c) then p.amount else 0)
@@ -67,7 +67,7 @@ module _ (counts : Position → Bool) (p : Position) (plain : PlainPosition p) w
       go false false = refl
 
   received_on : only counts received p ≡ (if (eqb p.side 2 && counts p) then p.amount else 0)
-  unfolding only received if◌then◌else◌
+  unfolding only received
   received_on = go (ℕ_discrete p.side 1)
     where
       by_counts : (c : Bool) → (if c then p.amount else 0) ≡ (if (true && c) then p.amount else 0)
@@ -94,7 +94,7 @@ module _ (ps : List Position) (plain : Each PlainPosition ps) where
 
 -- all of a side
 all_of : (figure : Position → ℕ) (ps : List Position) → sum_of figure ps ≡ sum_of (only (λ p. true) figure) ps
-unfolding sum_of only if◌then◌else◌
+unfolding sum_of only
 all_of figure [] = refl
 all_of figure (p ∷ ps) = ap (λ n. figure p + n) (all_of figure ps)
 

@@ -1,4 +1,5 @@
 -- A sum that counts each number once is the sum over all numbers; so are the add-ons of an accepted set. Assumes nothing.
+use Rattle.std.proofs.Common.{if◌then◌else◌}
 use Prim.Native.Nat.{ℕ, suc, ◌+◌, ◌*◌, ◌<◌}
 use mathlib.Core.Path.{◌≡◌, refl, sym, ap, ◌∙◌}
 use mathlib.Core.Bool.{Bool, true, false, ◌||◌}
@@ -9,7 +10,6 @@ use lib.Dec.{eqb}
 use lib.IntN.{nat_abs}
 use borrow.Author.Tests.{eq-eqb, eqb-true, ne_eqb}
 use Rattle.base.specs.Any.{any, any_two}
-use Rattle.base.specs.Choice.{if◌then◌else◌}
 use Rattle.base.specs.Each.{Each}
 use Rattle.base.specs.Range.{within}
 use Rattle.base.specs.Sum.{sum_below, sum_of}
@@ -116,7 +116,7 @@ first_haircut t (p ∷ ps) e =
 
 -- a security's number is at most 999
 pub security_low : (p : Position) → PlainPosition p → p.security < 1000
-unfolding security_allowed if◌then◌else◌
+unfolding security_allowed
 security_low p plain = go (eqb p.asset.goods 1) plain.security
   where
     go : (b : Bool) → (if b then eqb p.security 0 else within 1 999 p.security) ≡ true → p.security < 1000

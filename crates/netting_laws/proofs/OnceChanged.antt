@@ -1,4 +1,5 @@
 -- Sums that count each number once, where an element is put in another's place or one more is put in. Assumes nothing.
+use Rattle.std.proofs.Common.{if◌then◌else◌}
 use Prim.Native.Nat.{ℕ, ◌+◌, ◌≤◌}
 use mathlib.Core.Path.{◌≡◌, refl, ap, ap₂, ◌∙◌}
 use mathlib.Core.Bool.{Bool, true, false, ◌||◌}
@@ -7,7 +8,6 @@ use native.Mathlib.Omega.{arith}
 use lib.Dec.{eqb}
 use borrow.Author.Tests.{eqb-true}
 use Rattle.base.specs.Any.{any}
-use Rattle.base.specs.Choice.{if◌then◌else◌}
 use Rattle.base.specs.Each.{Each}
 use Rattle.base.proofs.Choice.{if_true}
 use Rattle.base.proofs.Compare.{eqb_turned}

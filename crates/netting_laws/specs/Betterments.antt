@@ -1,7 +1,6 @@
 -- Betterments of a netting set, lists of them, and the claim about such a list. 02: L6, "A set's betterments are a larger received position, one more of
 -- them and more frequent revaluation, each refused where the new set would be; without protection it keeps its lent positions alone"
-use Rattle.std.specs.Prelude.{ℕ, ◌≤◌, ◌<◌, ◌≡◌, Bool, true, false, List, [], ◌∷◌, ◌++◌, eqb, length}
-use Rattle.base.specs.Choice.{if◌then◌else◌}
+use Rattle.std.specs.Prelude.{ℕ, ◌≤◌, ◌<◌, ◌≡◌, Bool, true, false, List, [], ◌∷◌, ◌++◌, eqb, length, if◌then◌else◌}
 use Rattle.base.specs.Places.{in_places}
 use Rattle.netting.specs.Fields.{zero_position}
 use Rattle.netting.specs.Positions.{is_lent, received_side}

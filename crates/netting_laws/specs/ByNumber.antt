@@ -1,8 +1,7 @@
 -- The add-ons of a netting set by number: the sum over every security, and over every currency. 02: L6, "each absolute security net times its haircut,
 -- plus each absolute currency net times the currency haircut". The contracts say them by positions (netting/specs/Exposure); of an accepted set both say
 -- the same (`by_security`, `by_currency`)
-use Rattle.std.specs.Prelude.{ℕ, suc, ◌*◌, List, [], ◌∷◌, eqb, nat_abs}
-use Rattle.base.specs.Choice.{if◌then◌else◌}
+use Rattle.std.specs.Prelude.{ℕ, suc, ◌*◌, List, [], ◌∷◌, eqb, nat_abs, if◌then◌else◌}
 use Rattle.base.specs.Sum.{sum_below}
 use Rattle.netting.specs.Groups.{member}
 use Rattle.netting.specs.Nets.{net}

@@ -1,4 +1,5 @@
 -- Value, losses and what is left out add up to the amount that was sent, in every place of every report. Assumes nothing.
+use Rattle.std.proofs.Common.{if◌then◌else◌}
 use Prim.Native.Nat.{ℕ, ◌+◌}
 use mathlib.Core.Path.{◌≡◌, refl, sym, ap, subst, ◌∙◌}
 use mathlib.Core.Bool.{Bool, true, false}
@@ -7,7 +8,6 @@ use mathlib.Core.Logic.{◌≢◌}
 use native.Mathlib.Omega.{arith}
 use lib.Dec.{eqb}
 use borrow.Author.Tests.{eqb-false}
-use Rattle.base.specs.Choice.{if◌then◌else◌}
 use Rattle.base.specs.Places.{in_places}
 use Rattle.base.proofs.Choice.{either}
 use Rattle.base.proofs.Places.{map_places}
@@ -75,7 +75,7 @@ module _ (table : Table) (t : Terms) where
 
 module _ {A : Type 0} (place : A → Place) (amount : A → ℕ) (each : (x : A) → accounted (place x) ≡ amount x) where
   places_add_up : (b : Bool) (xs : List A) → map accounted (in_places list_limit no_place (if b then map place xs else [])) ≡ in_places list_limit 0 (if b then map amount xs else [])
-  unfolding value_and_losses if◌then◌else◌
+  unfolding value_and_losses
   places_add_up true xs =
       map_places accounted list_limit no_place (map place xs) ∙ ap (in_places list_limit 0) (map-map _ _ xs ∙ (λ i. map (λ x. each x i) xs))
   places_add_up false xs = refl

@@ -1,8 +1,8 @@
 -- A report's items by the paper's numbers. Assumes nothing.
+use Rattle.std.proofs.Common.{if◌then◌else◌}
 use mathlib.Core.Path.{◌≡◌, refl, ap, ◌∙◌}
 use mathlib.Core.Bool.{Bool, true, false}
 use mathlib.Core.List.{[], map, map-map}
-use Rattle.base.specs.Choice.{if◌then◌else◌}
 use Rattle.base.specs.Places.{in_places}
 use Rattle.base.proofs.Places.{map_places}
 use Rattle.base.proofs.Placed.{map_zip}
@@ -33,7 +33,7 @@ module _ (table : Table) (v : View) where
 -- EVERY PLACE OF A REPORT IN THE PAPER'S NUMBERS
 module _ (d : Deal) where
   pub collateral_by_number_lem : map (λ p. place_of p.outcome) (report_of d).collateral ≡ collateral_by_number d
-  unfolding report_under full_report collateral_by_number outcome_ground outcome_valuation outcome_left_out if◌then◌else◌
+  unfolding report_under full_report collateral_by_number outcome_ground outcome_valuation outcome_left_out
   collateral_by_number_lem = go (accepted d)
     where
       go : (b : Bool) → map (λ p. place_of p.outcome) (if b then full_report (table_for d.terms) (view_of d) else refused_report).collateral ≡
@@ -42,7 +42,7 @@ module _ (d : Deal) where
       go false = refl
 
   pub guarantees_by_number_lem : map (λ p. place_of p.outcome) (report_of d).guarantees ≡ guarantees_by_number d
-  unfolding report_under full_report guarantees_by_number outcome_ground outcome_valuation outcome_left_out if◌then◌else◌
+  unfolding report_under full_report guarantees_by_number outcome_ground outcome_valuation outcome_left_out
   guarantees_by_number_lem = go (accepted d)
     where
       go : (b : Bool) → map (λ p. place_of p.outcome) (if b then full_report (table_for d.terms) (view_of d) else refused_report).guarantees ≡

@@ -1,4 +1,5 @@
 -- The laws of outcomes: what is left out is worth nothing, and has its ground by its number. Assumes nothing.
+use Rattle.std.proofs.Common.{if◌then◌else◌}
 use Prim.Native.Nat.{ℕ, ◌≤◌}
 use mathlib.Core.Path.{◌≡◌, refl}
 use mathlib.Core.Bool.{Bool, true, false}
@@ -6,7 +7,6 @@ use mathlib.Core.List.{List}
 use mathlib.Core.Logic.{◌⊎◌, inl, inr, ⊎_elim}
 use native.Mathlib.Omega.{arith}
 use lib.Dec.{eqb}
-use Rattle.base.specs.Choice.{if◌then◌else◌}
 use Rattle.base.specs.FirstMet.{Test, first_met, NoneMet}
 use Rattle.base.proofs.Choice.{never}
 use Rattle.base.proofs.FirstMet.{EachGives, none_met, first_holds, gives_more}
@@ -25,7 +25,7 @@ Known ground' = ground_number (ground_with ground') ≡ ground'
 
 -- an outcome by the paper's numbers, where its ground is 0 or a ground's number
 pub place_for : (ground' amount : ℕ) (v : Valuation) → (eqb ground' 0 ≡ false → Known ground') → place_of (outcome_for ground' amount v) ≡ place_with ground' amount v
-unfolding outcome_for outcome_ground outcome_valuation outcome_left_out place_with if◌then◌else◌
+unfolding outcome_for outcome_ground outcome_valuation outcome_left_out place_with
 place_for ground' amount v = go (eqb ground' 0)
   where
     go : (b : Bool) → (b ≡ false → Known ground') →
@@ -48,7 +48,7 @@ module _ (a : ℕ) (v : Valuation) (ts : List (Test ℕ)) where
 
   -- the item's value where no ground is met
   pub value_recognised : NoneMet ts → outcome_value (outcome_for (first_met ts) a v) ≡ v.value
-  unfolding outcome_for outcome_valuation if◌then◌else◌
+  unfolding outcome_for outcome_valuation
   value_recognised n = rw (none_met ts n)
 
   -- and 0 where one is

@@ -3,7 +3,6 @@ use Prim.Native.Nat.{ℕ}
 use mathlib.Core.Path.{◌≡◌, refl, sym, ap, ◌∙◌}
 use lib.Dec.{eqb}
 use borrow.Author.Tests.{eqb-true}
-use Rattle.base.specs.Choice.{if◌then◌else◌}
 use Rattle.base.proofs.Choice.{either}
 use Rattle.tables.specs.Table.{Table}
 use Rattle.valuation.specs.declared.protection.Valuation.{Valuation}
@@ -29,14 +28,14 @@ place_ground ground' amount v = either (λ (p : Place). p.ground' ≡ ground') (
 
 module _ (table : Table) (t : Terms) where
   pub collateral_leaves : (a : ℕ) (v : Valuation) (c : Collateral) → LeaveOut a v (collateral_grounds table t c)
-  unfolding collateral_grounds outcome_for outcome_valuation ground_number ground_with if◌then◌else◌
+  unfolding collateral_grounds outcome_for outcome_valuation ground_number ground_with
   collateral_leaves a v c = record {
     worthless = refl also refl also refl also refl also refl also refl also tt;
     known = refl also refl also refl also refl also refl also refl also tt;
   }
 
   pub guarantee_leaves : (a : ℕ) (v : Valuation) (g : Guarantee) → LeaveOut a v (guarantee_grounds table t g)
-  unfolding guarantee_grounds outcome_for outcome_valuation ground_number ground_with if◌then◌else◌
+  unfolding guarantee_grounds outcome_for outcome_valuation ground_number ground_with
   guarantee_leaves a v g = record {
     worthless = refl also refl also refl also refl also refl also refl also refl also tt;
     known = refl also refl also refl also refl also refl also refl also refl also tt;

@@ -1,7 +1,6 @@
 -- The items of a report by the paper's numbers alone. 01: Reporting a deal, "for each item either its value or its ground"; Grounds for
 -- leaving an item out; 02: L2
-use Rattle.std.specs.Prelude.{ℕ, List, [], map, eqb}
-use Rattle.base.specs.Choice.{if◌then◌else◌}
+use Rattle.std.specs.Prelude.{ℕ, List, [], map, eqb, if◌then◌else◌}
 use Rattle.base.specs.Places.{in_places}
 use Rattle.valuation.specs.Valuation.{no_valuation}
 use Rattle.valuation.specs.declared.protection.Valuation.{Valuation}

@@ -1,7 +1,6 @@
 -- Which guarantees and swaps are recognised, what they are worth, and what they cover with, under a table. 01: Grounds for leaving an item out;
 -- From items to the weighted amount, 1 and 2; 02: L1, L2
-use Rattle.std.specs.Prelude.{ℕ, Bool, ◌&&◌, List, [], ◌∷◌, leb, eqb}
-use Rattle.base.specs.Choice.{if◌then◌else◌}
+use Rattle.std.specs.Prelude.{ℕ, Bool, ◌&&◌, List, [], ◌∷◌, leb, eqb, if◌then◌else◌}
 use Rattle.base.specs.FirstMet.{Test, ◌when◌, first_met}
 use Rattle.tables.specs.Classes.{other_entity}
 use Rattle.tables.specs.Table.{Table}

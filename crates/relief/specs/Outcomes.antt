@@ -1,6 +1,5 @@
 -- What is reported of an item: "either its value or its ground" (01: Reporting a deal), and where its amount went (02: L2)
-use Rattle.std.specs.Prelude.{ℕ, eqb}
-use Rattle.base.specs.Choice.{if◌then◌else◌}
+use Rattle.std.specs.Prelude.{ℕ, eqb, if◌then◌else◌}
 use Rattle.valuation.specs.Valuation.{no_valuation}
 use Rattle.valuation.specs.declared.protection.Valuation.{Valuation}
 use Rattle.relief.specs.declared.outcome.Outcome.{Outcome}

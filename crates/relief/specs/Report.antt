@@ -1,7 +1,6 @@
 -- Reporting a deal. 01: The four operations, Reporting a deal; 02: L2
-use Rattle.std.specs.Prelude.{ℕ, not}
+use Rattle.std.specs.Prelude.{ℕ, not, if◌then◌else◌}
 use mathlib.Core.List.{List, [], ◌∷◌, map, zip_with}
-use Rattle.base.specs.Choice.{if◌then◌else◌}
 use Rattle.base.specs.FirstMet.{◌when◌, first_met}
 use Rattle.base.specs.Places.{in_places}
 use Rattle.tables.specs.Table.{Table}

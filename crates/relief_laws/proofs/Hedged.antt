@@ -1,4 +1,5 @@
 -- A larger guarantee or swap, or a swap whose condition is now met, hedges no less. 02: L1. Assumes nothing.
+use Rattle.std.proofs.Common.{if◌then◌else◌}
 use Prim.Native.Nat.{ℕ, ◌≤◌}
 use mathlib.Core.Path.{◌≡◌, refl, ap}
 use mathlib.Core.Bool.{Bool, true, false}
@@ -6,7 +7,6 @@ use mathlib.Core.Logic.{◌⊎◌, inl, inr, ⊎_elim}
 use lib.Dec.{eqb}
 use native.Mathlib.Nat.{le_trans}
 use borrow.Author.Tests.{eq-eqb}
-use Rattle.base.specs.Choice.{if◌then◌else◌}
 use Rattle.base.proofs.Choice.{never}
 use Rattle.valuation.specs.Restructuring.{partially_recognised}
 use Rattle.valuation.proofs.PartialRecognition.{partial_le, partial_mono}
@@ -19,7 +19,6 @@ use Rattle.relief_laws.proofs.NoWorse.{SameOrNowMet}
 -- both cut, the one alone, or neither: none where the other's is not
 cut_alike : (a a' deal : ℕ) → a ≤ a' → (cut cut' : Bool) → (cut' ≡ cut) ⊎ ((cut ≡ true) × (cut' ≡ false)) →
     (if cut then partially_recognised a deal else a) ≤ (if cut' then partially_recognised a' deal else a')
-unfolding if◌then◌else◌
 cut_alike a a' deal h true true either = partial_mono a a' deal h
 cut_alike a a' deal h true false either = le_trans (partial_le a deal) h
 cut_alike a a' deal h false false either = h

@@ -2,7 +2,6 @@
 use Prim.Native.Nat.{ℕ}
 use mathlib.Core.Path.{◌≡◌, refl}
 use mathlib.Core.List.{List, []}
-use Rattle.base.specs.Choice.{if◌then◌else◌}
 use Rattle.text.specs.Bytes.{bytes}
 use Rattle.result.specs.List.{list_text, number_lines}
 use Rattle.result.specs.Numbers.{digit_text, number_text}
@@ -17,10 +16,10 @@ unfolding book_written worked
 example_book = refl
 
 example_notice : notice_written example ≡ bytes "1\n2\n4\n"
-unfolding notice_written worked list_text number_lines number_text digit_text if◌then◌else◌
+unfolding notice_written worked list_text number_lines number_text digit_text
 example_notice = refl
 
 -- nothing is altered, and nothing is said
 clean : (book_written (bytes "CRM\t1\n") ≡ bytes "CRM\t1\n") × (notice_written (bytes "CRM\t1\n") ≡ [])
-unfolding book_written notice_written worked list_text number_lines number_text digit_text if◌then◌else◌
+unfolding book_written notice_written worked list_text number_lines number_text digit_text
 clean = (refl, refl)

@@ -4,7 +4,6 @@ use mathlib.Core.Path.{◌≡◌, ◌∙◌, ap}
 use mathlib.Core.List.{List, []}
 use native.Mathlib.Omega.{arith}
 use lib.ListN.{drop, length, length-append}
-use Rattle.base.specs.Choice.{if◌then◌else◌}
 use Rattle.base.specs.Writing.{overwrite}
 use Rattle.text.specs.Bytes.{bytes}
 use Rattle.text.specs.Text.{book_limit}
@@ -46,16 +45,16 @@ notice_inside book before after n e h = inside n (notice_written book) before af
 
 -- a book that is too long: nothing, and its refusal
 pub too_long : (book : List ℕ) → book_limit < length book → (book_written book ≡ []) × (notice_written book ≡ bytes "REFUSED\t10\n")
-unfolding book_written notice_written list_text number_text digit_text unless_refused if◌then◌else◌
+unfolding book_written notice_written list_text number_text digit_text unless_refused
 too_long book h = let e = refused_too_long book book_limit book_limit h in (rw e, rw e)
 
 -- any other: the repaired book, and the numbers of its altered lines
 pub whole_book : (book : List ℕ) → length book ≤ book_limit → book_written book ≡ repaired book
-unfolding book_written unless_refused if◌then◌else◌
+unfolding book_written unless_refused
 whole_book book h = rw (only_too_long book h)
 
 pub whole_notice : (book : List ℕ) → length book ≤ book_limit → notice_written book ≡ number_lines (length (altered_lines book)) (altered_lines book)
-unfolding notice_written list_text unless_refused if◌then◌else◌
+unfolding notice_written list_text unless_refused
 whole_notice book h = rw (only_too_long book h)
 
 -- and of what it wrote itself the same book, with nothing to say

@@ -1,4 +1,5 @@
 -- A text, or a refusal's, written from the front of a lent buffer where buffer and list are long enough; elsewhere nothing. Assumes nothing.
+use Rattle.std.proofs.Common.{if◌then◌else◌}
 use Prim.Native.Nat.{ℕ, ◌≤◌, ◌<◌}
 use mathlib.Core.Path.{◌≡◌, refl}
 use mathlib.Core.Bool.{false, ◌&&◌}
@@ -8,7 +9,6 @@ use native.Mathlib.Nat.{zero-add}
 use native.Mathlib.Omega.{arith}
 use lib.Dec.{eqb, leb}
 use lib.ListN.{length, drop}
-use Rattle.base.specs.Choice.{if◌then◌else◌}
 use Rattle.base.specs.Writing.{placed_at, Placed}
 use Rattle.base.proofs.Choice.{if_true, if_false}
 use Rattle.base.proofs.Tests.{and_true, and_first, and_second}

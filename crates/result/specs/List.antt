@@ -1,7 +1,6 @@
 -- The text of a list of numbers, one a line, as `crmrepair` writes it for those of altered lines (02: L14). That they are written as text is no
 -- rule of the paper.
-use Rattle.std.specs.Prelude.{ℕ, zero, suc, ◌+◌, ◌*◌, Bool, ◌&&◌, List, [], ◌∷◌, ◌++◌, eqb, leb, length, drop, get_or}
-use Rattle.base.specs.Choice.{if◌then◌else◌}
+use Rattle.std.specs.Prelude.{ℕ, zero, suc, ◌+◌, ◌*◌, Bool, ◌&&◌, List, [], ◌∷◌, ◌++◌, eqb, leb, length, drop, get_or, if◌then◌else◌}
 use Rattle.text.specs.Text.{line_feed}
 use Rattle.result.specs.Numbers.{number_text}
 use Rattle.result.specs.Result.{refused_text}

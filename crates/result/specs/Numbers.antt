@@ -1,6 +1,5 @@
 -- A number in decimal, without leading zeros. 01: The book
-use Rattle.std.specs.Prelude.{ℕ, zero, suc, ◌+◌, ◌/◌, ◌%◌, List, [], ◌∷◌, ◌++◌, ltb}
-use Rattle.base.specs.Choice.{if◌then◌else◌}
+use Rattle.std.specs.Prelude.{ℕ, zero, suc, ◌+◌, ◌/◌, ◌%◌, List, [], ◌∷◌, ◌++◌, ltb, if◌then◌else◌}
 
 -- a number in at most so many digits: those of the number divided by 10, then its last one. 48 is the byte of the digit 0
 unfoldable pub digit_text : ℕ → ℕ → List ℕ

@@ -4,7 +4,6 @@ use mathlib.Core.Path.{◌≡◌, ◌∙◌, refl, sym}
 use mathlib.Core.Bool.{true, false}
 use mathlib.Core.List.{[], ◌∷◌, map}
 use lib.Dec.{eqb}
-use Rattle.base.specs.Choice.{if◌then◌else◌}
 use Rattle.base.specs.Least.{between, least}
 use Rattle.base.proofs.Choice.{either}
 use Rattle.tables.specs.Haircuts.{band_of, currency_haircut, debt_haircut, haircut, issuer_column, row_of}
@@ -64,7 +63,7 @@ pub each_of_a_table : stored_haircuts ≡
     ∷ printed_haircut 1 8 0 0
     ∷ printed_haircut 3 8 0 0
     ∷ []
-unfolding table_of haircut haircut_2023 debt_haircut row_of band_of issuer_column if◌then◌else◌
+unfolding table_of haircut haircut_2023 debt_haircut row_of band_of issuer_column
 each_of_a_table = refl
 
 -- the figures, a line for each haircut, over 5, 10 and 20 days; that of 80000 is the paper's starred one
@@ -85,21 +84,21 @@ pub printed : stored_figures ≡
     ∷ (176777 ∷ 250000 ∷ 353554 ∷ [])
     ∷ (212133 ∷ 300000 ∷ 424265 ∷ [])
     ∷ []
-unfolding scaled least between if◌then◌else◌
+unfolding scaled least between
 printed = refl
 
 -- the time factors of daily periods
 pub factors : over_daily 1000000 ≡ 707107 ∷ 1000000 ∷ 1414214 ∷ []
-unfolding scaled least between if◌then◌else◌
+unfolding scaled least between
 factors = refl
 
 pub daily_factor : (r : TimeFactor) → IsTimeFactor r → is_daily r.period ≡ true → r.millionths ≡ figure_over r.period 707107 1000000 1414214
-unfolding scaled least between if◌then◌else◌
+unfolding scaled least between
 daily_factor r f d = f.scaled_millionths ∙ sym (over_right 1000000 r.period d refl refl refl)
 
 -- next to daily periods, where the figure is worked out
 pub neighbours : map (scaled 80000) (4 ∷ 6 ∷ 9 ∷ 11 ∷ 19 ∷ 21 ∷ 24 ∷ 269 ∷ []) ≡ 50597 ∷ 61968 ∷ 75895 ∷ 83905 ∷ 110273 ∷ 115932 ∷ 123936 ∷ 414922 ∷ []
-unfolding scaled least between if◌then◌else◌
+unfolding scaled least between
 neighbours = refl
 
 -- the periods and the haircuts that are stored, beside some that are not
@@ -113,9 +112,9 @@ stored_and_others = refl
 
 -- THE STARRED FIGURES of 80000, which is that of currencies, from its line; a haircut that no table has is without one, and is worked out
 pub lines : map stored_line (currency_haircut ∷ 5000 ∷ 0 ∷ 80001 ∷ 50000 ∷ 1000000 ∷ []) ≡ Figures 56569 80000 113138 ∷ Figures 3536 5000 7072 ∷ Figures 0 0 0 ∷ Nothing ∷ Nothing ∷ Nothing ∷ []
-unfolding stored_line is_stored scaled least between if◌then◌else◌
+unfolding stored_line is_stored scaled least between
 lines = refl
 
 pub over_each : map (λ n. figure_over n 56569 80000 113138) (5 ∷ 10 ∷ 20 ∷ []) ≡ 56569 ∷ 80000 ∷ 113138 ∷ []
-unfolding figure_over if◌then◌else◌
+unfolding figure_over
 over_each = refl

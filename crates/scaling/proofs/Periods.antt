@@ -3,7 +3,6 @@ use Prim.Native.Nat.{ℕ, ◌+◌, ◌≤◌}
 use native.Mathlib.Omega.{arith}
 use mathlib.Core.Path.{◌≡◌, refl}
 use mathlib.Core.List.{[], ◌∷◌, map}
-use Rattle.base.specs.Choice.{if◌then◌else◌}
 use lib.Dec.{eqb}
 use Rattle.base.proofs.Choice.{either}
 use Rattle.tables.specs.Kinds.{repo_style, other_capital_market}
@@ -24,10 +23,10 @@ guarantee_bound interval = omega arith
 
 -- the paper's periods
 pub periods : (map (λ k. holding_period k 1) (1 ∷ 2 ∷ 3 ∷ []) ≡ 5 ∷ 10 ∷ 20 ∷ []) × (map guarantee_period (1 ∷ 11 ∷ 250 ∷ []) ≡ 10 ∷ 20 ∷ 259 ∷ [])
-unfolding holding_period minimum_period guarantee_period if◌then◌else◌
+unfolding holding_period minimum_period guarantee_period
 periods = (refl, refl)
 
 -- longer intervals, day for day
 pub longer_periods : map (λ i. map (λ k. holding_period k i) (1 ∷ 2 ∷ 3 ∷ [])) (2 ∷ 10 ∷ 250 ∷ []) ≡ (6 ∷ 11 ∷ 21 ∷ []) ∷ (14 ∷ 19 ∷ 29 ∷ []) ∷ (254 ∷ 259 ∷ 269 ∷ []) ∷ []
-unfolding holding_period minimum_period if◌then◌else◌
+unfolding holding_period minimum_period
 longer_periods = refl

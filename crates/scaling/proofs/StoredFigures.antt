@@ -11,7 +11,6 @@ use lib.Dec.{eqb, leb}
 use lib.ListN.{get_or, length}
 use borrow.Author.Tests.{eqb-true, lt-leb, ne_eqb}
 use Rattle.base.specs.All.{all_pass}
-use Rattle.base.specs.Choice.{if◌then◌else◌}
 use Rattle.base.proofs.Choice.{either, never}
 use Rattle.base.proofs.Every.{both, every_at}
 use Rattle.base.proofs.Tests.{or_false}
@@ -33,12 +32,12 @@ stored_at = every_at 15 (λ at. is_stored (get_or stored_haircuts at 0)) refl
 
 -- THE LAW: a table that passed the test of `stored_figures` has at each place the line of the haircut there
 pub line_right : (H at : ℕ) (table : List (List ℕ)) (d : List ℕ) {line : Stored} → at < 15 → H ≡ get_or stored_haircuts at 0 → table ≡ stored_figures → line ≡ line_of (get_or table at d) → line ≡ stored_line H
-unfolding stored_line if◌then◌else◌
+unfolding stored_line
 line_right H at table d h e t l = rw (l, t, line_at stored_haircuts at d h, e, stored_at at h)
 
 -- a haircut that is not stored has no line
 pub no_line : (H : ℕ) → is_stored H ≡ false → Nothing ≡ stored_line H
-unfolding stored_line if◌then◌else◌
+unfolding stored_line
 no_line H e = rw e
 
 -- what a line that was found says of its haircut

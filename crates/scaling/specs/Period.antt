@@ -1,6 +1,5 @@
 -- Holding periods in business days. CRE22.60, CRE22.61, CRE22.64; 01: Haircuts in millionths, "Holding periods"
-use Rattle.std.specs.Prelude.{ℕ, ◌+◌, ◌-◌, eqb}
-use Rattle.base.specs.Choice.{if◌then◌else◌}
+use Rattle.std.specs.Prelude.{ℕ, ◌+◌, ◌-◌, eqb, if◌then◌else◌}
 use Rattle.tables.specs.Kinds.{repo_style, other_capital_market}
 
 -- "kinds 1, 2, 3 have minimum 5, 10, 20 business days". CRE22.61

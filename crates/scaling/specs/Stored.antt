@@ -1,6 +1,5 @@
 -- The figures that are stored and not worked out. 02: L4
-use Rattle.std.specs.Prelude.{ℕ, Bool, false, ◌||◌, List, [], ◌∷◌, map, eqb, get_or}
-use Rattle.base.specs.Choice.{if◌then◌else◌}
+use Rattle.std.specs.Prelude.{ℕ, Bool, false, ◌||◌, List, [], ◌∷◌, map, eqb, get_or, if◌then◌else◌}
 use Rattle.scaling.specs.Scaling.{scaled}
 use Rattle.scaling.specs.declared.stored.Stored.{Stored}
 use Rattle.scaling.specs.declared.stored.Stored.TheVariants.{Figures, Nothing}

@@ -4,7 +4,6 @@ use mathlib.Core.Path.{◌≡◌, refl, ◌∙◌}
 use native.Mathlib.Omega.{arith}
 use lib.Dec.{leb, eqb}
 use borrow.Author.Tests.{eqb-true, le-leb, lt-leb}
-use Rattle.base.specs.Choice.{if◌then◌else◌}
 use Rattle.base.proofs.Choice.{either, if_false, if_true}
 use Rattle.base.proofs.Every.{every_at}
 use Rattle.tables.specs.Haircuts.{band_of, debt_haircut, haircut, lent_haircut}
@@ -34,7 +33,7 @@ sample (suc zero) = 1800
 sample (suc (suc n)) = 1801
 
 band_sample : (life : ℕ) → band_of (sample (band_of life)) ≡ band_of life
-unfolding band_of if◌then◌else◌
+unfolding band_of
 band_sample life =
     eqb-true _ _ (every_at 3 (λ b. eqb (band_of (sample b)) b) refl (band_of life) (band_below life))
 

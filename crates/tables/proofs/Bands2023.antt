@@ -4,7 +4,6 @@ use mathlib.Core.Path.{◌≡◌, refl, sym, ap, ◌∙◌}
 use native.Mathlib.Omega.{arith}
 use lib.Dec.{leb, eqb}
 use borrow.Author.Tests.{eqb-true, leb-false, leb-true, le-leb, lt-leb}
-use Rattle.base.specs.Choice.{if◌then◌else◌}
 use Rattle.base.proofs.Choice.{either, if_false, if_true}
 use Rattle.base.proofs.Every.{every_at}
 use Rattle.tables.specs.Haircuts.{band_of, debt_haircut}
@@ -71,7 +70,7 @@ sample_2023 (suc (suc (suc zero))) = 3600
 sample_2023 (suc (suc (suc (suc n)))) = 3601
 
 band_sample : (life : ℕ) → band_of_2023 (sample_2023 (band_of_2023 life)) ≡ band_of_2023 life
-unfolding band_of_2023 if◌then◌else◌
+unfolding band_of_2023
 band_sample life =
     eqb-true _ _ (every_at 5 (λ b. eqb (band_of_2023 (sample_2023 b)) b) refl (band_of_2023 life) (band_below_2023 life))
 

@@ -7,7 +7,6 @@ use native.Mathlib.Omega.{arith}
 use lib.Dec.{leb, eqb}
 use lib.ListN.{get_or}
 use borrow.Author.Tests.{leb-true, eqb-false}
-use Rattle.base.specs.Choice.{if◌then◌else◌}
 use Rattle.base.proofs.Choice.{either}
 use Rattle.base.proofs.Every.{every, every_at}
 use Rattle.tables.specs.Classes.{retail, sovereign}
@@ -30,7 +29,7 @@ abbrev weight_bounded : ℕ → ℕ → Bool
 weight_bounded c s = leb (get_or (get_or weights c []) (step_column s) 0) 150
 
 pub table_bound : (class step : ℕ) → class ≤ 3 → step ≤ 6 → table_weight class step ≤ 150
-unfolding table_weight step_column if◌then◌else◌
+unfolding table_weight step_column
 table_bound class step hc hs =
     leb-true _ _ (every_at 7 (weight_bounded (class - 1)) (every_at 3 (λ c. every 7 (weight_bounded c)) refl (class - 1) (omega arith)) step (omega arith))
 

@@ -7,7 +7,6 @@ use native.Mathlib.Omega.{arith}
 use lib.Dec.{eqb}
 use lib.ListN.{get_or}
 use borrow.Author.Tests.{eqb-true}
-use Rattle.base.specs.Choice.{if◌then◌else◌}
 use Rattle.base.proofs.Every.{every, every_at, both}
 use Rattle.tables.specs.Goods.{sovereign_debt, securitisation}
 use Rattle.tables.specs.Haircuts.{cell, debt_haircut, issuer_column, row_of}
@@ -41,7 +40,7 @@ module _ (goods step life : ℕ) where
   found = rows_right (row_of step) (band_of_2023 life) (row_below step) (band_below_2023 life)
 
   pub debt_cell : held (row_of step) (band_of_2023 life) (issuer_column goods) ≡ debt_haircut_2023 goods step life
-  unfolding issuer_column debt_haircut_2023 debt_haircut other_issuers_haircut_2023 if◌then◌else◌
+  unfolding issuer_column debt_haircut_2023 debt_haircut other_issuers_haircut_2023
   debt_cell = go (eqb goods sovereign_debt) (eqb goods securitisation) refl refl
     where
       inner : (eqb (held (row_of step) (band_of_2023 life) 0) (cell (row_of step) (within_2019 (band_of_2023 life)) 0) ≡ true)
@@ -61,7 +60,7 @@ abbrev same : ℕ → ℕ → Bool
 same i s = eqb (get_or (get_or weights_2023 i []) s 0) (table_weight_2023 (suc i) s)
 
 place_right : (i s : ℕ) → i < 3 → s < 7 → get_or (get_or weights_2023 i []) s 0 ≡ table_weight_2023 (suc i) s
-unfolding table_weight_2023 table_weight step_column if◌then◌else◌
+unfolding table_weight_2023 table_weight step_column
 place_right i s h k = eqb-true _ _ (every_at 7 (same i) (every_at 3 (λ i. every 7 (same i)) refl i h) s k)
 
 pub weight_cell : (class step : ℕ) → 1 ≤ class → class ≤ 3 → step ≤ 6 → get_or (get_or weights_2023 (class - 1) []) step 0 ≡ table_weight_2023 class step

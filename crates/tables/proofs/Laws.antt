@@ -3,7 +3,6 @@ use Prim.Native.Nat.{ℕ}
 use mathlib.Core.Path.{◌≡◌, refl}
 use mathlib.Core.Bool.{Bool, true, false}
 use lib.Dec.{eqb}
-use Rattle.base.specs.Choice.{if◌then◌else◌}
 use Rattle.base.specs.Range.{within}
 use Rattle.base.proofs.Choice.{either}
 use Rattle.tables.specs.Eligibility.{eligible, bank_debt_eligible, equity_or_gold}
@@ -21,11 +20,11 @@ abbrev test_2019 : ℕ → Bool
 test_2019 edition = test (table_2019 edition) sample 3
 
 passes_1 : test_2019 1 ≡ true
-unfolding eligible bank_debt_eligible equity_or_gold within row_of band_of issuer_column debt_haircut haircut lent_haircut step_column table_weight at_least_sovereign has_floor provider_weight if◌then◌else◌
+unfolding eligible bank_debt_eligible equity_or_gold within row_of band_of issuer_column debt_haircut haircut lent_haircut step_column table_weight at_least_sovereign has_floor provider_weight
 passes_1 = refl
 
 passes_2 : test_2019 2 ≡ true
-unfolding eligible bank_debt_eligible equity_or_gold within row_of band_of issuer_column debt_haircut haircut lent_haircut step_column table_weight at_least_sovereign has_floor provider_weight if◌then◌else◌
+unfolding eligible bank_debt_eligible equity_or_gold within row_of band_of issuer_column debt_haircut haircut lent_haircut step_column table_weight at_least_sovereign has_floor provider_weight
 passes_2 = refl
 
 -- of an edition the test asks no more than whether it has the floor
@@ -43,7 +42,7 @@ lawful_2019 edition = laws_from_test (table_2019 edition) sample band_of 3 band_
 -- THE VERSION OF 2023
 
 passes_2023 : test table_2023 sample_2023 5 ≡ true
-unfolding eligible bank_debt_eligible equity_or_gold within row_of band_of issuer_column debt_haircut haircut lent_haircut step_column table_weight at_least_sovereign has_floor band_of_2023 other_issuers_haircut_2023 debt_haircut_2023 haircut_2023 lent_haircut_2023 table_weight_2023 provider_weight_2023 if◌then◌else◌
+unfolding eligible bank_debt_eligible equity_or_gold within row_of band_of issuer_column debt_haircut haircut lent_haircut step_column table_weight at_least_sovereign has_floor band_of_2023 other_issuers_haircut_2023 debt_haircut_2023 haircut_2023 lent_haircut_2023 table_weight_2023 provider_weight_2023
 passes_2023 = refl
 
 pub lawful_2023 : TableLaws table_2023

@@ -5,7 +5,6 @@ use mathlib.Core.Bool.{Bool, true, false, not}
 use native.Mathlib.Omega.{arith}
 use lib.Dec.{leb}
 use borrow.Author.Tests.{le-leb}
-use Rattle.base.specs.Choice.{if◌then◌else◌}
 use Rattle.base.specs.Range.{within}
 use Rattle.base.proofs.Every.{every, implies, every_at, implied}
 use Rattle.tables.specs.Eligibility.{eligible, bank_debt_eligible, equity_or_gold, excluded}
@@ -27,7 +26,7 @@ abbrev types : ℕ → Bool
 types g = implies (leb 1 g) (every 7 (λ s. every 2 (listed g s)))
 
 pub eligible_as_listed : (goods step k : ℕ) → Goods goods → step ≤ 6 → k ≤ 1 → eligible goods step k ≡ not (excluded goods step k)
-unfolding eligible bank_debt_eligible equity_or_gold within excluded if◌then◌else◌
+unfolding eligible bank_debt_eligible equity_or_gold within excluded
 eligible_as_listed g s k hg hs hk =
     opposite _ _
     (every_at 2 (listed g s)

@@ -3,7 +3,6 @@ use Prim.Native.Nat.{ℕ}
 use mathlib.Core.Path.{◌≡◌, refl}
 use mathlib.Core.List.{List, [], ◌∷◌, map}
 use lib.ListN.{replicate}
-use Rattle.base.specs.Choice.{if◌then◌else◌}
 use Rattle.base.specs.Range.{within}
 use Rattle.tables.specs.Classes.{sovereign, bank, corporate, retail, bank_or_securities_firm, other_entity}
 use Rattle.tables.specs.Eligibility.{eligible, bank_debt_eligible, equity_or_gold}
@@ -27,7 +26,7 @@ pub other_issuers :
     (map (λ g. cells g 1) (3 ∷ 4 ∷ []) ≡ replicate 2 (bands 10000 30000 40000 60000 120000))
     × (map (cells 3) (2 ∷ 3 ∷ []) ≡ replicate 2 (bands 20000 40000 60000 120000 200000))
     × (map (cells 4) (0 ∷ 2 ∷ 3 ∷ []) ≡ replicate 3 (bands 20000 40000 60000 120000 200000))
-unfolding row_of band_of_2023 other_issuers_haircut_2023 debt_haircut_2023 haircut_2023 if◌then◌else◌
+unfolding row_of band_of_2023 other_issuers_haircut_2023 debt_haircut_2023 haircut_2023
 other_issuers = (refl, refl, refl)
 
 -- "The sovereign and securitisation figures keep their earlier bands": 361 to 1,800 is one
@@ -36,12 +35,12 @@ pub sovereign_and_securitisation :
     bands 5000 20000 20000 40000 40000 ∷ bands 10000 30000 30000 60000 60000 ∷ bands 10000 30000 30000 60000 60000 ∷ bands 150000 150000 150000 150000 150000 ∷ [])
     × (map (cells 5) (1 ∷ 2 ∷ 3 ∷ []) ≡
     bands 20000 80000 80000 160000 160000 ∷ bands 40000 120000 120000 240000 240000 ∷ bands 40000 120000 120000 240000 240000 ∷ [])
-unfolding row_of band_of issuer_column debt_haircut debt_haircut_2023 haircut_2023 if◌then◌else◌
+unfolding row_of band_of issuer_column debt_haircut debt_haircut_2023 haircut_2023
 sovereign_and_securitisation = (refl, refl)
 
 -- "Main index equity and gold become 20 percent; other equity, and lent goods not eligible, 30"; cash has none
 pub equity_and_gold : map (λ g. haircut_2023 g 0 0) (1 ∷ 7 ∷ 8 ∷ 9 ∷ []) ≡ 0 ∷ 200000 ∷ 300000 ∷ 200000 ∷ []
-unfolding haircut_2023 if◌then◌else◌
+unfolding haircut_2023
 equity_and_gold = refl
 
 -- goods lent, types 2 to 6, by step, unrated first, in the second band
@@ -59,7 +58,7 @@ pub lent :
     × (map (lent_haircut_2023 3 1) lives ≡ bands 10000 30000 40000 60000 120000)
     × (map (lent_haircut_2023 4 2) lives ≡ bands 20000 40000 60000 120000 200000)
     × (map (λ g. lent_haircut_2023 g 0 0) (1 ∷ 7 ∷ 8 ∷ 9 ∷ []) ≡ 0 ∷ 200000 ∷ 300000 ∷ 200000 ∷ [])
-unfolding eligible bank_debt_eligible equity_or_gold within row_of band_of issuer_column debt_haircut band_of_2023 other_issuers_haircut_2023 debt_haircut_2023 haircut_2023 lent_haircut_2023 if◌then◌else◌
+unfolding eligible bank_debt_eligible equity_or_gold within row_of band_of issuer_column debt_haircut band_of_2023 other_issuers_haircut_2023 debt_haircut_2023 haircut_2023 lent_haircut_2023
 lent = (refl, refl, refl, refl)
 
 -- weights, unrated first, under a sovereign of step 1, which never weighs more
@@ -70,7 +69,7 @@ pub weighed :
     (map (λ c. map (λ s. counterparty_weight_2023 c s 1) steps) (sovereign ∷ bank ∷ corporate ∷ []) ≡ weights)
     × (map (λ c. map (λ s. provider_weight_2023 c s 1) steps) (sovereign ∷ bank_or_securities_firm ∷ other_entity ∷ []) ≡ weights)
     × (map (counterparty_weight_2023 retail 0) steps ≡ replicate 7 75)
-unfolding step_column table_weight own_weight has_floor at_least_sovereign table_weight_2023 own_weight_2023 counterparty_weight_2023 provider_weight_2023 if◌then◌else◌
+unfolding step_column table_weight own_weight has_floor at_least_sovereign table_weight_2023 own_weight_2023 counterparty_weight_2023 provider_weight_2023
 weighed = (refl, refl, refl)
 
 -- the floor, by the sovereign's step, unrated first: a bank weighs 150 by itself, and no sovereign more; a corporate 100. Nobody else has it
@@ -81,15 +80,15 @@ pub floored :
     × (map (provider_weight_2023 other_entity 0) steps ≡ replicate 7 100)
     × (map (λ s. counterparty_weight_2023 corporate s 6) (1 ∷ 2 ∷ 3 ∷ 4 ∷ 5 ∷ 6 ∷ []) ≡ 20 ∷ 50 ∷ 75 ∷ 100 ∷ 150 ∷ 150 ∷ [])
     × (map (λ s. provider_weight_2023 bank_or_securities_firm s 6) (1 ∷ 2 ∷ 3 ∷ 4 ∷ 5 ∷ 6 ∷ []) ≡ 20 ∷ 30 ∷ 50 ∷ 100 ∷ 100 ∷ 150 ∷ [])
-unfolding step_column table_weight own_weight has_floor at_least_sovereign table_weight_2023 own_weight_2023 counterparty_weight_2023 provider_weight_2023 if◌then◌else◌
+unfolding step_column table_weight own_weight has_floor at_least_sovereign table_weight_2023 own_weight_2023 counterparty_weight_2023 provider_weight_2023
 floored = (refl, refl, refl, refl, refl, refl)
 
 -- the bands by day, and lives that a narrower number would cut
 bands_of_lives : map band_of_2023 (1 ∷ 360 ∷ 361 ∷ 1080 ∷ 1081 ∷ 1800 ∷ 1801 ∷ 3600 ∷ 3601 ∷ 36001 ∷ 65536 ∷ 65600 ∷ 100000 ∷ []) ≡ 0 ∷ 0 ∷ 1 ∷ 1 ∷ 2 ∷ 2 ∷ 3 ∷ 3 ∷ 4 ∷ 4 ∷ 4 ∷ 4 ∷ 4 ∷ []
-unfolding band_of_2023 if◌then◌else◌
+unfolding band_of_2023
 bands_of_lives = refl
 
 -- each edition's set of tables, whole
 editions : map table_of (1 ∷ 2 ∷ 3 ∷ []) ≡ table_2019 1 ∷ table_2019 2 ∷ table_2023 ∷ []
-unfolding table_of if◌then◌else◌
+unfolding table_of
 editions = refl

@@ -1,8 +1,7 @@
 -- Which goods are eligible as collateral. CRE22.37, CRE22.38, CRE22.39; 01: Grounds for leaving an item out, ground 24.
 -- `eligible` decides; `excluded` is the paper's own list, and `eligible_as_listed` (proofs/Listed) proves that, of types 1 to 9
 -- at steps 0 to 6, those eligible are all but those excluded
-use Rattle.std.specs.Prelude.{ℕ, Bool, true, false, not, ◌&&◌, ◌||◌, ltb, eqb}
-use Rattle.base.specs.Choice.{if◌then◌else◌}
+use Rattle.std.specs.Prelude.{ℕ, Bool, true, false, not, ◌&&◌, ◌||◌, ltb, eqb, if◌then◌else◌}
 use Rattle.base.specs.Range.{within}
 use Rattle.tables.specs.Goods.{cash, sovereign_debt, other_debt, bank_debt, securitisation, resecuritisation, main_index_equity, other_listed_equity, gold}
 

@@ -1,7 +1,6 @@
 -- Standard supervisory haircuts in millionths, for a holding period of ten business days, version of 2019 (editions 1 and 2). CRE22.44 to CRE22.47;
 -- 01: Haircuts in millionths. A year is 360 days. The currency haircut is that of every version
-use Rattle.std.specs.Prelude.{ℕ, List, [], ◌∷◌, leb, eqb, get_or}
-use Rattle.base.specs.Choice.{if◌then◌else◌}
+use Rattle.std.specs.Prelude.{ℕ, List, [], ◌∷◌, leb, eqb, get_or, if◌then◌else◌}
 use Rattle.tables.specs.Goods.{cash, sovereign_debt, securitisation, main_index_equity, other_listed_equity, gold}
 use Rattle.tables.specs.Eligibility.{eligible}
 

@@ -1,7 +1,6 @@
 -- The figures that depend on type, class and step, as one set, by edition, and laws of such a set that suffice for 01: Betterments:
 -- with them a better step of goods, of a provider or of its sovereign, or a listing, never raises the weighted amount
-use Rattle.std.specs.Prelude.{ℕ, ◌≤◌, ◌≡◌, Bool, true, eqb}
-use Rattle.base.specs.Choice.{if◌then◌else◌}
+use Rattle.std.specs.Prelude.{ℕ, ◌≤◌, ◌≡◌, Bool, true, eqb, if◌then◌else◌}
 use Rattle.tables.specs.Classes.{sovereign, other_entity}
 use Rattle.tables.specs.Goods.{cash, gold}
 use Rattle.tables.specs.Eligibility

@@ -1,7 +1,6 @@
 -- The figures of the 2023 version (edition 3): those that 02: L9 lists, "and is all that changes". Every other figure is that of 2019 (specs/Haircuts,
 -- specs/Weights), and periods, scaling, the currency haircut and grounds do not depend on the version
-use Rattle.std.specs.Prelude.{ℕ, ◌&&◌, ◌||◌, List, [], ◌∷◌, leb, eqb, get_or}
-use Rattle.base.specs.Choice.{if◌then◌else◌}
+use Rattle.std.specs.Prelude.{ℕ, ◌&&◌, ◌||◌, List, [], ◌∷◌, leb, eqb, get_or, if◌then◌else◌}
 use Rattle.tables.specs.Classes.{bank, corporate, retail}
 use Rattle.tables.specs.Eligibility.{eligible}
 use Rattle.tables.specs.Goods.{cash, sovereign_debt, securitisation, main_index_equity, other_listed_equity, gold}

@@ -1,7 +1,6 @@
 -- Risk weights in percent, version of 2019 (editions 1 and 2). CRE20.4, CRE20.14 option 2, CRE20.17, CRE20.20; 01: Risk weights in percent;
 -- and the sovereign floor of CRE20.11, CRE20.17; 02: L5. Other classes and steps are refused by opening, adding and reporting
-use Rattle.std.specs.Prelude.{ℕ, ◌-◌, max, Bool, not, ◌&&◌, ◌||◌, List, [], ◌∷◌, eqb, get_or}
-use Rattle.base.specs.Choice.{if◌then◌else◌}
+use Rattle.std.specs.Prelude.{ℕ, ◌-◌, max, Bool, not, ◌&&◌, ◌||◌, List, [], ◌∷◌, eqb, get_or, if◌then◌else◌}
 use Rattle.tables.specs.Classes.{sovereign, bank, corporate, retail, bank_or_securities_firm}
 
 -- a row for each class: sovereign; bank; corporate and other entity. In a row: steps 1 to 6, unrated

@@ -9,7 +9,6 @@ use native.Mathlib.Numerals.{add-one}
 use lib.Dec.{eqb}
 use lib.ListN.{length, drop, get_or, drop_of_length-le}
 use lib.Seq.{drop-cons}
-use Rattle.base.proofs.Choice.{if_true, if_false}
 use Rattle.base.proofs.Every.{both}
 use Rattle.base.proofs.Tests.{told_not_false}
 use Rattle.text.specs.Text.{first_line, line_feed}
@@ -19,11 +18,11 @@ use Rattle.text.specs.WithinLine.{Near}
 module _ (text : List ℕ) (at : ℕ) where
   pub fed : at < length text → get_or text at 0 ≡ line_feed → length (first_line (drop at text)) ≡ 1
   unfolding first_line
-  fed h e = rw (drop-cons text at 0 h, eq-eqb _ _ e, if_true _ _ _ refl)
+  fed h e = rw (drop-cons text at 0 h, eq-eqb _ _ e)
 
   no_feed : at < length text → eqb (get_or text at 0) line_feed ≡ false → length (first_line (drop at text)) ≡ length (first_line (drop (at + 1) text)) + 1
   unfolding first_line
-  no_feed h e = rw (add-one at, drop-cons text at 0 h, e, if_false _ _ _ refl, add-one)
+  no_feed h e = rw (add-one at, drop-cons text at 0 h, e, add-one)
 
   pub past : length text ≤ at → length (first_line (drop at text)) ≡ 0
   unfolding first_line

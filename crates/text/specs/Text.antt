@@ -1,6 +1,5 @@
 -- A book's bytes and the lines they make. 01: The book
-use Rattle.std.specs.Prelude.{ℕ, Bool, true, false, ◌&&◌, List, [], ◌∷◌, eqb}
-use Rattle.base.specs.Choice.{if◌then◌else◌}
+use Rattle.std.specs.Prelude.{ℕ, Bool, true, false, ◌&&◌, List, [], ◌∷◌, eqb, if◌then◌else◌}
 
 -- byte "\t"
 abbrev pub tab : ℕ

@@ -3,7 +3,6 @@ use Prim.Native.Nat.{ℕ, ◌≤◌}
 use mathlib.Core.Path.{◌≡◌, refl}
 use native.Mathlib.Omega.{arith}
 use lib.Dec.{eqb}
-use Rattle.base.specs.Choice.{if◌then◌else◌}
 use Rattle.base.specs.Least.{least, between}
 use Rattle.base.proofs.Choice.{either}
 use Rattle.scaling.specs.Scaling.{scaled}
@@ -12,7 +11,7 @@ use Rattle.valuation.specs.Haircuts.{scaled_currency_haircut, combined_haircut}
 
 -- each haircut is scaled by itself: the sum of 20000 and 80000 scaled to 20 days would be 141422, one too few
 each_by_itself : combined_haircut 20000 840 978 20 ≡ 141423
-unfolding combined_haircut scaled_currency_haircut scaled least between if◌then◌else◌
+unfolding combined_haircut scaled_currency_haircut scaled least between
 each_by_itself = refl
 
 -- a bound, for sums to fit

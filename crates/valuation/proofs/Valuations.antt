@@ -2,7 +2,6 @@
 use Prim.Native.Nat.{ℕ, ◌+◌, ◌≤◌}
 use mathlib.Core.Path.{◌≡◌, refl}
 use native.Mathlib.Omega.{arith}
-use Rattle.base.specs.Choice.{if◌then◌else◌}
 use Rattle.valuation.specs.Protection.{keep_share, volatility_adjusted_value, mismatched, maturity_adjusted, recognised}
 use Rattle.valuation.specs.declared.protection.Valuation.{Valuation}
 use Rattle.valuation.specs.Valuation.{valuation_of, no_valuation}
@@ -20,7 +19,7 @@ edges :
     × ((valuation_of 1001 1001 1000001 945 1800 ≡ record { value = 0; haircut_loss = 1001; maturity_loss = 0; cut_loss = 0 })
     × ((valuation_of 1001 1001 100000 90 1800 ≡ record { value = 0; haircut_loss = 101; maturity_loss = 900; cut_loss = 0 })
     × (valuation_of 0 0 100000 945 1800 ≡ no_valuation)))))))
-unfolding valuation_of volatility_adjusted_value keep_share recognised maturity_adjusted mismatched if◌then◌else◌
+unfolding valuation_of volatility_adjusted_value keep_share recognised maturity_adjusted mismatched
 edges = (refl, (refl, (refl, (refl, (refl, (refl, (refl, refl)))))))
 
 -- value and losses together

@@ -4,7 +4,6 @@ use mathlib.Core.Path.{◌≡◌, refl, ◌∙◌}
 use mathlib.Core.List.{[], ◌∷◌, map}
 use native.Mathlib.Omega.{arith}
 use native.Mathlib.Nat.{le_trans, mul-zero, zero-div}
-use Rattle.base.specs.Choice.{if◌then◌else◌}
 use lib.Dec.{ltb}
 use borrow.Author.Tests.{lt-ltb}
 use Rattle.base.proofs.Choice.{either, if_true}
@@ -47,15 +46,15 @@ recognised_le a haircut cover term = le_trans (maturity_adjusted_le (volatility_
 
 -- deals beyond five years: T is 1,800, and cover of five years or more is worth its whole value
 beyond_five_years : (maturity_adjusted 1000000 900 3600 ≡ 473684) × (maturity_adjusted 1000000 1800 3600 ≡ 1000000)
-unfolding maturity_adjusted mismatched if◌then◌else◌
+unfolding maturity_adjusted mismatched
 beyond_five_years = (refl, refl)
 
 -- terms above 36,000, and those that a narrower number would cut: cover of 945 days is half of 1,800 over 90, cover of five years is whole
 long_terms :
     map (λ term. maturity_adjusted 1000 945 term) (36001 ∷ 65536 ∷ 65600 ∷ 100000 ∷ []) ≡ 500 ∷ 500 ∷ 500 ∷ 500 ∷ []
-unfolding maturity_adjusted mismatched if◌then◌else◌
+unfolding maturity_adjusted mismatched
 long_terms = refl
 
 long_covers : map (λ cover. maturity_adjusted 1000 cover 100000) (1800 ∷ 36001 ∷ 65536 ∷ 65600 ∷ 100000 ∷ []) ≡ 1000 ∷ 1000 ∷ 1000 ∷ 1000 ∷ 1000 ∷ []
-unfolding maturity_adjusted mismatched if◌then◌else◌
+unfolding maturity_adjusted mismatched
 long_covers = refl

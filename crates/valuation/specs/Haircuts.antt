@@ -1,7 +1,6 @@
 -- Haircuts scaled to a holding period n, in millionths.
 -- 01: Haircuts in millionths, "Each haircut is scaled by itself, before any sum"
-use Rattle.std.specs.Prelude.{ℕ, ◌+◌, eqb}
-use Rattle.base.specs.Choice.{if◌then◌else◌}
+use Rattle.std.specs.Prelude.{ℕ, ◌+◌, eqb, if◌then◌else◌}
 use Rattle.tables.specs.Haircuts.{currency_haircut}
 use Rattle.scaling.specs.Scaling.{scaled}
 

@@ -1,6 +1,5 @@
 -- The value of protection that no ground leaves out. 01: From items to the weighted amount, 1 and 2
-use Rattle.std.specs.Prelude.{ℕ, ◌*◌, ◌-◌, ◌/◌, min, Bool, ltb}
-use Rattle.base.specs.Choice.{if◌then◌else◌}
+use Rattle.std.specs.Prelude.{ℕ, ◌*◌, ◌-◌, ◌/◌, min, Bool, ltb, if◌then◌else◌}
 
 -- "Keep share: 1,000,000 less the item's scaled haircuts, or 0 if they reach 1,000,000". The term is document 01's own; CRE22.40 has it as
 -- 1 − Hc − Hfx. (The library's difference is never below 0)

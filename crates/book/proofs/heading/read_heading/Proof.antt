@@ -1,9 +1,9 @@
 -- `book::heading::read_heading` meets its contract: the bytes are those of the definition. Assumes nothing.
+use Rattle.std.proofs.Common.{if◌then◌else◌}
 use Prim.Native.Nat.{ℕ}
 use mathlib.Core.Path.{◌≡◌, sym, ◌∙◌}
 use mathlib.Core.Bool.{false}
 use mathlib.Core.List.{List}
-use Rattle.base.specs.Choice.{if◌then◌else◌}
 use Rattle.base.proofs.Choice.{if_true, if_false}
 use Rattle.base.proofs.Tests.{told_false, told_true}
 use Rattle.text.specs.Text.{same_bytes}

@@ -1,4 +1,5 @@
 -- `lines::fields::read_field` meets its contract: behind a tab the number is read. Assumes nothing.
+use Rattle.std.proofs.Common.{if◌then◌else◌}
 use Prim.Native.Nat.{ℕ, ◌<◌}
 use mathlib.Core.Path.{◌≡◌, refl, sym, ◌∙◌}
 use mathlib.Core.List.{List, [], ◌∷◌}
@@ -6,7 +7,6 @@ use native.Mathlib.Omega.{arith}
 use borrow.Author.Tests.{eq-eqb, ne_eqb}
 use lib.Dec.{eqb}
 use lib.ListN.{length, drop, get_or}
-use Rattle.base.specs.Choice.{if◌then◌else◌}
 use Rattle.base.proofs.Choice.{if_true, if_false}
 use Rattle.text.specs.Text.{tab}
 use Rattle.lines.specs.Numbers.{number_of}

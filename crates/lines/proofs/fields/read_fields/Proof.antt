@@ -8,7 +8,6 @@ use native.Mathlib.Omega.{arith}
 use native.Mathlib.Numerals.{add-one}
 use lib.ListN.{length, take, drop, set, replicate, length-drop, length-set, take-append-drop}
 use lib.Seq.{take-suc-set, drop-set-lt, drop-drop, append_snoc, length-take-le}
-use Rattle.base.specs.Choice.{if◌then◌else◌}
 use Rattle.base.specs.Places.{in_places}
 use Rattle.base.proofs.Places.{placed}
 use Rattle.base.proofs.Tests.{tests, told_true, told_false}
@@ -57,7 +56,7 @@ module _ (line : List ℕ) (count : ℕ) (values : List ℕ) (at k : ℕ) (held 
 
   -- the fields are read and something else than a line feed is left
   unended : count ≤ k → is_end (drop at line) ≡ false → fields_of count line ≡ none
-  unfolding fields_of if◌then◌else◌
+  unfolding fields_of
   unended h e =
       let z : count - k ≡ 0 = omega arith in
       held.passed ∙ rw (z, e)
@@ -69,7 +68,7 @@ module _ (line : List ℕ) (count : ℕ) (values : List ℕ) (at k : ℕ) (held 
       sym (placed most_fields k 0 (take k values) l) ∙ ap (λ (r : List ℕ). take k values ++ r) (sym held.zeros) ∙ take-append-drop k values
 
   ended : count ≤ most_fields → count ≤ k → is_end (drop at line) ≡ true → fields_held (fields_of count line) ≡ record { read = true; values = values }
-  unfolding fields_of fields_held if◌then◌else◌
+  unfolding fields_of fields_held
   ended few h e =
       let z : count - k ≡ 0 = omega arith in
       let o : fields_of count line ≡ some (take k values) = held.passed ∙ rw (z, e, append-nil) in

@@ -5,7 +5,6 @@ use mathlib.Core.List.{List, [], ◌∷◌}
 use native.Mathlib.Omega.{arith}
 use borrow.Author.Tests.{ne_eqb}
 use lib.ListN.{length, drop, get_or}
-use Rattle.base.specs.Choice.{if◌then◌else◌}
 use Rattle.lines.specs.Fields.{fields_of}
 use Rattle.lines.specs.Sovereign.{width_under}
 use Rattle.lines.specs.Lines.{deal_line, collateral_line, guarantee_line, swap_line, if_read, line_of}
@@ -24,27 +23,27 @@ module _ (edition : ℕ) where
 
   -- by the letter
   deal : (line : List ℕ) → 0 < length line → get_or line 0 0 ≡ 68 → line_of edition line ≡ if_read (deal_line edition) (fields_of (width_under edition 11) (drop 1 line))
-  unfolding line_of if◌then◌else◌
+  unfolding line_of
   deal [] h e = absurd (omega arith)
   deal (b ∷ bs) h e = rw e
 
   collateral : (line : List ℕ) → 0 < length line → get_or line 0 0 ≡ 67 → line_of edition line ≡ if_read collateral_line (fields_of 11 (drop 1 line))
-  unfolding line_of if◌then◌else◌
+  unfolding line_of
   collateral [] h e = absurd (omega arith)
   collateral (b ∷ bs) h e = rw e
 
   guarantee : (line : List ℕ) → 0 < length line → get_or line 0 0 ≡ 71 → line_of edition line ≡ if_read (guarantee_line edition) (fields_of (width_under edition 10) (drop 1 line))
-  unfolding line_of if◌then◌else◌
+  unfolding line_of
   guarantee [] h e = absurd (omega arith)
   guarantee (b ∷ bs) h e = rw e
 
   swap : (line : List ℕ) → 0 < length line → get_or line 0 0 ≡ 83 → line_of edition line ≡ if_read (swap_line edition) (fields_of (width_under edition 11) (drop 1 line))
-  unfolding line_of if◌then◌else◌
+  unfolding line_of
   swap [] h e = absurd (omega arith)
   swap (b ∷ bs) h e = rw e
 
   other : (line : List ℕ) → (get_or line 0 0 ≡ 68 → ⊥) → (get_or line 0 0 ≡ 67 → ⊥) → (get_or line 0 0 ≡ 71 → ⊥) → (get_or line 0 0 ≡ 83 → ⊥) → line_of edition line ≡ Malformed
-  unfolding line_of if◌then◌else◌
+  unfolding line_of
   other [] d c g s = refl
   other (b ∷ bs) d c g s = simp (ne_eqb b 68 d, ne_eqb b 67 c, ne_eqb b 71 g, ne_eqb b 83 s)
 

@@ -5,7 +5,6 @@ use mathlib.Core.Path.{◌≡◌, sym, ap, ◌∙◌}
 use native.Mathlib.Omega.{arith}
 use lib.ListN.{drop}
 use borrow.Author.Tests.{eq-eqb, ne_eqb}
-use Rattle.base.specs.Choice.{if◌then◌else◌}
 use Rattle.base.specs.FirstMet.{first_met, first_or}
 use Rattle.base.proofs.FirstMet.{met_first, not_met}
 use Rattle.base.proofs.Tests.{tests, told_true, told_false}
@@ -41,7 +40,7 @@ of-requires : tie.Need-of-valuation-requires
 of-requires c κs = search tests
 
 returns : tie.Need-returns-then-item-eq0
-unfolding collateral_ground collateral_grounds outcome_for ground_with if◌then◌else◌
+unfolding collateral_ground collateral_grounds outcome_for ground_with
 returns c = decided _ _ (met_first _ _ _ (eq-eqb c.before.before.before.args.item.lawful 0 (omega (arith, c.if-item-eq0.true))))
 
 past-1 : (c : tie.Else-item-eq0) → let a = c.before.before.before.args in Past a.terms a.item 1
@@ -49,7 +48,7 @@ unfolding collateral_ground collateral_grounds
 past-1 c = not_met _ _ _ (ne_eqb _ 0 c.if-item-eq0.false)
 
 returns-2 : tie.Need-returns-then-item-eq0-2
-unfolding collateral_ground collateral_grounds outcome_for ground_with if◌then◌else◌
+unfolding collateral_ground collateral_grounds outcome_for ground_with
 returns-2 c = decided _ _ (past-1 c.before.before ∙ met_first _ _ _ (eq-eqb _ 0 c.if-item-eq0-2.true))
 
 past-2 : (c : tie.Else-item-eq0-2) → let a = c.before.before.before.before.before.args in Past a.terms a.item 2
@@ -57,7 +56,7 @@ unfolding collateral_grounds
 past-2 c = past-1 c.before.before ∙ not_met _ _ _ (ne_eqb _ 0 c.if-item-eq0-2.false)
 
 returns-3 : tie.Need-returns-then-item-eq0-3
-unfolding collateral_ground collateral_grounds outcome_for ground_with if◌then◌else◌
+unfolding collateral_ground collateral_grounds outcome_for ground_with
 returns-3 c = decided _ _ (past-2 c.before.before ∙ met_first _ _ _ (eq-eqb _ 0 c.if-item-eq0-3.true))
 
 past-3 : (c : tie.Else-item-eq0-3) → let a = c.before.before.before.before.before.before.before.args in Past a.terms a.item 3
@@ -65,7 +64,7 @@ unfolding collateral_grounds
 past-3 c = past-2 c.before.before ∙ not_met _ _ _ (ne_eqb _ 0 c.if-item-eq0-3.false)
 
 returns-4 : tie.Need-returns-then-not-eligible
-unfolding table_for collateral_ground collateral_grounds outcome_for ground_with if◌then◌else◌
+unfolding table_for collateral_ground collateral_grounds outcome_for ground_with
 returns-4 c = decided _ _ (past-3 c.before.before ∙ met_first _ _ _ (ap not (told_false _ _ (c.before.eligible.ensures ∙ sym (eligible_same _ _ _ _)) c.if-not-eligible.true)))
 
 past-4 : (c : tie.Else-not-eligible) → let a = c.before.before.before.before.before.before.before.before.before.args in Past a.terms a.item 4
@@ -73,7 +72,7 @@ unfolding table_for collateral_grounds
 past-4 c = past-3 c.before.before ∙ not_met _ _ _ (ap not (told_true _ _ (c.before.eligible.ensures ∙ sym (eligible_same _ _ _ _)) c.if-not-eligible.false))
 
 returns-5 : tie.Need-returns-then-short_original
-unfolding collateral_ground collateral_grounds outcome_for ground_with if◌then◌else◌
+unfolding collateral_ground collateral_grounds outcome_for ground_with
 returns-5 c = decided _ _ (past-4 c.before.before ∙ met_first _ _ _ (told_true _ _ c.before.short_original.ensures c.if-short_original.true))
 
 past-5 : (c : tie.Else-short_original) → let a = c.before.before.before.before.before.before.before.before.before.before.before.args in Past a.terms a.item 5
@@ -81,7 +80,7 @@ unfolding collateral_grounds
 past-5 c = past-4 c.before.before ∙ not_met _ _ _ (told_false _ _ c.before.short_original.ensures c.if-short_original.false)
 
 returns-6 : tie.Need-returns-then-short_residual
-unfolding collateral_ground collateral_grounds outcome_for ground_with if◌then◌else◌
+unfolding collateral_ground collateral_grounds outcome_for ground_with
 returns-6 c = decided _ _ (past-5 c.before.before ∙ met_first _ _ _ (told_true _ _ c.before.short_residual.ensures c.if-short_residual.true))
 
 past-6 : (c : tie.Else-short_residual) → let a = c.before.before.before.before.before.before.before.before.before.before.before.before.before.args in Past a.terms a.item 6
@@ -89,7 +88,7 @@ unfolding collateral_grounds
 past-6 c = past-5 c.before.before ∙ not_met _ _ _ (told_false _ _ c.before.short_residual.ensures c.if-short_residual.false)
 
 returns-7 : tie.Need-returns
-unfolding collateral_ground collateral_grounds collateral_valuation first_or outcome_for ground_with if◌then◌else◌
+unfolding collateral_ground collateral_grounds collateral_valuation first_or outcome_for ground_with
 returns-7 c =
     let s = c.before.before.before.before.before.before.before.before.before.before.before.before.before.before in
     rw (c.of-valuation.ensures, s.requires.1) (decided _ _ (past-6 c.before))

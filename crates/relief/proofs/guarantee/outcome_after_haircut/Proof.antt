@@ -4,7 +4,6 @@ use mathlib.Core.Path.{◌≡◌, sym, ap, ◌∙◌}
 use native.Mathlib.Omega.{arith}
 use lib.ListN.{drop}
 use borrow.Author.Tests.{eq-eqb, ne_eqb, le-leb, lt-leb}
-use Rattle.base.specs.Choice.{if◌then◌else◌}
 use Rattle.base.specs.FirstMet.{first_met, first_or}
 use Rattle.base.proofs.FirstMet.{met_first, not_met}
 use Rattle.base.proofs.Tests.{tests, told_true, told_false}
@@ -46,7 +45,7 @@ of-requires c κs =
     omega (arith, c.hedged_amount-hedged.ensures, hedged_le s.args.terms s.args.item, s.requires.0.0)
 
 returns : tie.Need-returns-then-item-eq0
-unfolding guarantee_ground guarantee_grounds outcome_for ground_with if◌then◌else◌
+unfolding guarantee_ground guarantee_grounds outcome_for ground_with
 returns c = decided _ _ (met_first _ _ _ (eq-eqb _ 0 c.if-item-eq0.true))
 
 past-1 : (c : tie.Else-item-eq0) → let a = c.before.before.args in Past a.terms a.item 1
@@ -54,7 +53,7 @@ unfolding guarantee_ground guarantee_grounds
 past-1 c = not_met _ _ _ (ne_eqb _ 0 c.if-item-eq0.false)
 
 returns-2 : tie.Need-returns-then-item-eq0-2
-unfolding guarantee_ground guarantee_grounds outcome_for ground_with if◌then◌else◌
+unfolding guarantee_ground guarantee_grounds outcome_for ground_with
 returns-2 c = decided _ _ (past-1 c.before.before ∙ met_first _ _ _ (eq-eqb _ 0 c.if-item-eq0-2.true))
 
 past-2 : (c : tie.Else-item-eq0-2) → let a = c.before.before.before.before.args in Past a.terms a.item 2
@@ -62,7 +61,7 @@ unfolding guarantee_grounds
 past-2 c = past-1 c.before.before ∙ not_met _ _ _ (ne_eqb _ 0 c.if-item-eq0-2.false)
 
 returns-3 : tie.Need-returns-then-item-eq0-3
-unfolding guarantee_ground guarantee_grounds outcome_for ground_with if◌then◌else◌
+unfolding guarantee_ground guarantee_grounds outcome_for ground_with
 returns-3 c = decided _ _ (past-2 c.before.before ∙ met_first _ _ _ (eq-eqb _ 0 c.if-item-eq0-3.true))
 
 past-3 : (c : tie.Else-item-eq0-3) → let a = c.before.before.before.before.before.before.args in Past a.terms a.item 3
@@ -70,7 +69,7 @@ unfolding guarantee_grounds
 past-3 c = past-2 c.before.before ∙ not_met _ _ _ (ne_eqb _ 0 c.if-item-eq0-3.false)
 
 returns-4 : tie.Need-returns-then-unrated_entity
-unfolding guarantee_ground guarantee_grounds outcome_for ground_with if◌then◌else◌
+unfolding guarantee_ground guarantee_grounds outcome_for ground_with
 returns-4 c = decided _ _ (past-3 c.before.before ∙ met_first _ _ _ (told_true _ _ c.before.unrated_entity.ensures c.if-unrated_entity.true))
 
 past-4 : (c : tie.Else-unrated_entity) → let a = c.before.before.before.before.before.before.before.before.args in Past a.terms a.item 4
@@ -78,7 +77,7 @@ unfolding guarantee_grounds
 past-4 c = past-3 c.before.before ∙ not_met _ _ _ (told_false _ _ c.before.unrated_entity.ensures c.if-unrated_entity.false)
 
 returns-5 : tie.Need-returns-then-short_original
-unfolding guarantee_ground guarantee_grounds outcome_for ground_with if◌then◌else◌
+unfolding guarantee_ground guarantee_grounds outcome_for ground_with
 returns-5 c = decided _ _ (past-4 c.before.before ∙ met_first _ _ _ (told_true _ _ c.before.short_original.ensures c.if-short_original.true))
 
 past-5 : (c : tie.Else-short_original) → let a = c.before.before.before.before.before.before.before.before.before.before.args in Past a.terms a.item 5
@@ -86,7 +85,7 @@ unfolding guarantee_grounds
 past-5 c = past-4 c.before.before ∙ not_met _ _ _ (told_false _ _ c.before.short_original.ensures c.if-short_original.false)
 
 returns-6 : tie.Need-returns-then-short_residual
-unfolding guarantee_ground guarantee_grounds outcome_for ground_with if◌then◌else◌
+unfolding guarantee_ground guarantee_grounds outcome_for ground_with
 returns-6 c = decided _ _ (past-5 c.before.before ∙ met_first _ _ _ (told_true _ _ c.before.short_residual.ensures c.if-short_residual.true))
 
 past-6 : (c : tie.Else-short_residual) → let a = c.before.before.before.before.before.before.before.before.before.before.before.before.args in Past a.terms a.item 6
@@ -95,7 +94,7 @@ past-6 c = past-5 c.before.before ∙ not_met _ _ _ (told_false _ _ c.before.sho
 
 -- the weights compared are those of the definition
 returns-7 : tie.Need-returns-then-weight-counterparty_weight
-unfolding guarantee_ground guarantee_grounds outcome_for ground_with if◌then◌else◌
+unfolding guarantee_ground guarantee_grounds outcome_for ground_with
 returns-7 c =
     let s = c.before.before.before.before.before.before.before.before.before.before.before.before.before in
     let h : counterparty_weight_of (table_for s.args.terms) s.args.terms ≤ provider_weight_of (table_for s.args.terms) s.args.item = omega (arith, s.requires.1.0, s.requires.1.1, c.if-weight-counterparty_weight.true) in
@@ -109,7 +108,7 @@ past-7 c =
     past-6 c.before ∙ not_met _ _ _ (lt-leb _ _ h)
 
 returns-8 : tie.Need-returns
-unfolding guarantee_ground guarantee_grounds guarantee_valuation first_or outcome_for ground_with if◌then◌else◌
+unfolding guarantee_ground guarantee_grounds guarantee_valuation first_or outcome_for ground_with
 returns-8 c =
     let h = c.before in
     let s = h.before.before.before.before.before.before.before.before.before.before.before.before.before.before in

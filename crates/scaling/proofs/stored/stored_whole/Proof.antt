@@ -1,6 +1,5 @@
 -- `scaling::stored::stored_whole` meets its contract. Assumes nothing.
 use mathlib.Core.Path.{refl, ◌∙◌}
-use Rattle.base.specs.Choice.{if◌then◌else◌}
 use Rattle.base.specs.Least.{between, least}
 use Rattle.scaling.specs.Scaling.{scaled}
 use Rattle.scaling.proofs.StoredFigures.{over_right}
@@ -11,7 +10,7 @@ over-requires : tie.Need-over-requires
 over-requires c κs = c.requires
 
 returns : tie.Need-returns
-unfolding scaled least between if◌then◌else◌
+unfolding scaled least between
 returns c = c.over.ensures ∙ over_right 1000000 _ c.before.requires refl refl refl
 
 pub stored_whole_spec : {M : Type 1} → statement M

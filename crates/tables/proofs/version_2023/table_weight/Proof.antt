@@ -1,7 +1,6 @@
 -- `tables::version_2023::table_weight` meets its contract. Assumes nothing.
 use mathlib.Core.Path.{◌∙◌}
 use native.Mathlib.Omega.{arith}
-use Rattle.base.specs.Choice.{if◌then◌else◌}
 use Rattle.base.proofs.Tests.{tests}
 use Rattle.tables.specs.Version2023.{table_weight_2023}
 use Rattle.tables.specs.Weights.{step_column, table_weight}
@@ -25,7 +24,7 @@ wide-weight-requires : tie.Need-wide_weight-requires
 wide-weight-requires c κs = search tests
 
 returns : tie.Need-returns
-unfolding table_weight_2023 table_weight step_column if◌then◌else◌
+unfolding table_weight_2023 table_weight step_column
 returns c =
     let a = c.before.before.args in
     c.wide_weight.ensures ∙ weight_cell a.class a.step (omega arith) (omega arith) (omega arith)
