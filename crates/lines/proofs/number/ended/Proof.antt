@@ -37,26 +37,25 @@ wide-requires c κs = tt
 returns-2 : tie.Need-returns-then-wide-eq-FIRST_DIGIT
 unfolding number_read
 returns-2 c =
-    let b = c.before.before.before in
-    let many = ne_eqb b.before.before.before.args.digits 1 (λ e. omega (arith, b.if-digits-gt1.true, e)) in
+    let many = ne_eqb c.args.digits 1 (λ e. omega (arith, e)) in
     let zero = eq-eqb _ 48 (sym c.before.wide.ensures ∙ c.if-wide-eq-FIRST_DIGIT.true) in
-    sym (if_false _ _ _ (some _ _ b.before.before.before.requires (omega (arith, b.if-digits-gt1.true)) ∙ or_false _ _ many (not_false _ zero)))
+    sym (if_false _ _ _ (some _ _ c.requires (omega arith) ∙ or_false _ _ many (not_false _ zero)))
 
 returns-3 : tie.Need-returns-else-wide-eq-FIRST_DIGIT
 unfolding number_read
 returns-3 c =
-    let b = c.before.before.before in
-    let many = ne_eqb b.before.before.before.args.digits 1 (λ e. omega (arith, b.if-digits-gt1.true, e)) in
+    let many = ne_eqb c.args.digits 1 (λ e. omega (arith, e)) in
     let other = ne_eqb _ 48 (λ e. c.if-wide-eq-FIRST_DIGIT.false (c.before.wide.ensures ∙ e)) in
-    sym (if_true _ _ _ (some _ _ b.before.before.before.requires (omega (arith, b.if-digits-gt1.true)) ∙ or_second _ _ many (not_true _ other)))
-
-returns-4 : tie.Need-returns-else-digits-gt1
-unfolding number_read
-returns-4 c =
-    let b = c.before.before.before in
-    let one = eq-eqb b.args.digits 1 (omega arith) in
-    sym (if_true _ _ _ (some _ _ b.requires (omega arith) ∙ or_first _ _ one))
+    sym (if_true _ _ _ (some _ _ c.requires (omega arith) ∙ or_second _ _ many (not_true _ other)))
 
 pub ended_spec : {M : Type 1} → statement M
+unfolding number_read
 ended_spec =
-    tie.close (tie.spec returns shared-slice-read-wide wide-requires returns-2 returns-3 returns-4)
+    tie.close
+    (tie.spec
+    returns
+    shared-slice-read-wide
+    wide-requires
+    returns-2
+    returns-3
+    (λ c. sym (if_true _ _ _ (some _ _ c.requires (omega arith) ∙ or_first _ _ (eq-eqb c.args.digits 1 (omega arith))))))

@@ -11,10 +11,6 @@ use Rattle.valuation.specs.Protection.{maturity_adjusted, mismatched}
 use Rattle.valuation.proofs.protection.maturity_adjusted.Statement.{statement}
 use Rattle.valuation.proofs.protection.maturity_adjusted.Tie as tie
 
-returns : tie.Need-returns-then-cover-term
-unfolding maturity_adjusted mismatched
-returns c = search tests
-
 returns-2 : tie.Need-returns-then-cover-le-SHORTEST
 unfolding maturity_adjusted mismatched
 returns-2 c =
@@ -47,13 +43,14 @@ returns-3 c =
     let a = c.before.before.before.before.args in
     let T : c.before.smaller-deal_term.result ≡ min a.term 1800 = omega arith in
     let t : c.smaller-cover_term.result ≡ min (min a.term 1800) a.cover = omega arith in
-    rw (t, T, if_true _ _ _ (lt-ltb _ _ c.before.before.before.if-cover-term.false))
+    rw (t, T, if_true _ _ _ (lt-ltb a.cover a.term (omega arith)))
 
 pub maturity_adjusted_spec : {M : Type 1} → statement M
+unfolding maturity_adjusted mismatched
 maturity_adjusted_spec =
     tie.close
     (tie.spec
-    returns
+    (λ c. search tests)
     returns-2
     smaller-requires
     smaller-requires-2
