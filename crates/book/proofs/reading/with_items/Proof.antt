@@ -128,25 +128,14 @@ loop-again : tie.Need-loop-end-preserved invariant-loop decreases-loop
 loop-again c =
     let m = c.before in
     let e = line-ended m in
-    held_next _ _ _ _ _ _ _ _ (looped m).loop-end.invariant _ (ends e) e.line_end-end.ensures (done m) c.if-refusal-ne0.false
+    let passed : m.match-line.refusal ≡ 0 = omega arith in
+    held_next _ _ _ _ _ _ _ _ (looped m).loop-end.invariant _ (ends e) e.line_end-end.ensures (done m) passed
 
 refused-requires : tie.Need-refused-requires invariant-loop decreases-loop
 refused-requires c κs =
     let e = line-ended c.before in
     let l = looped c.before in
     ((ends e).inside, omega (arith, (ends e).more, l.loop-end.invariant.passed.numbered, (start_of l).requires.0.1.1))
-
-returns : tie.Need-returns-then-refusal-ne0 invariant-loop decreases-loop
-returns c =
-    let m = c.before.before in
-    let e = line-ended m in
-    let l = (looped m).loop-end in
-    let r = c.refused.ensures in
-    let passed = passed_line _ _ _ _ _ l.invariant.passed _ (ends e) e.line_end-end.ensures in (
-      passed_on _ _ _ _ _ passed _ _ r.1,
-      held_refused _ _ _ _ _ _ _ _ l.invariant _ (ends e) e.line_end-end.ensures (done m) (ne_eqb _ _ c.before.if-refusal-ne0.true)
-          ∙ sym (componentwise r.0.0 r.0.1.0 r.0.1.1),
-    )
 
 add-next-2 : tie.Need-overflow_add-next-in-loop-end invariant-loop decreases-loop
 add-next-2 c =
@@ -200,7 +189,16 @@ with_items_spec =
     enum_told
     enum-told-2
     refused-requires
-    returns
+    (λ c.
+        let m = c.before.before in
+        let e = line-ended m in
+        let l = (looped m).loop-end in
+        let r = c.refused.ensures in
+        let passed = passed_line _ _ _ _ _ l.invariant.passed _ (ends e) e.line_end-end.ensures in (
+          passed_on _ _ _ _ _ passed _ _ r.1,
+          held_refused _ _ _ _ _ _ _ _ l.invariant _ (ends e) e.line_end-end.ensures (done m) (ne_eqb m.match-line.refusal 0 (λ z. omega (arith, z)))
+              ∙ sym (componentwise r.0.0 r.0.1.0 r.0.1.1),
+        ))
     add-next-2
     loop-less
     loop-again

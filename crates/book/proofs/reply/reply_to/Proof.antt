@@ -128,26 +128,16 @@ module _ (c : tie.After-count_deals-deals) where
       let count : List ℕ → ℕ = λ text. length (deals_from 2 (lines_of text)) in
       c.count_deals-deals.ensures ∙ ap count (rest_part (book line) _ ∙ ap (λ n. drop n (book line)) (ends line))
 
-refused-requires-4 : tie.Need-refused-requires-then-places-deals
-refused-requires-4 c κs = tt
-
-returns-4 : tie.Need-returns-then-places-deals
-unfolding book_tests
-returns-4 c =
-    let n = c.before.before in
-    let l = line n in
-    let few = lt-ltb (places l) (4 * length (deals_of (book l))) (omega (arith, counted n, c.before.if-places-deals.true)) in
-    c.refused-then-places-deals.ensures ∙ sym (refused_reply_lem (book l) (places l) 13 refl (short l, ((passed n).0, ((passed n).1, few))))
-
 returns-5 : tie.Need-returns
 unfolding book_tests
 returns-5 c =
     let n = c.before in
     let l = line n in
-    let enough = le-ltb (places l) (4 * length (deals_of (book l))) (omega (arith, counted n, c.if-places-deals.false)) in
+    let enough = le-ltb (places l) (4 * length (deals_of (book l))) (omega (arith, counted n)) in
     ap (λ d. record { refusal = 0; deals = d }) (counted n) ∙ sym (accepted_reply (book l) (places l) (short l, ((passed n).0, ((passed n).1, (enough, tt)))))
 
 pub reply_to_spec : {M : Type 1} → statement M
+unfolding book_tests
 reply_to_spec =
     tie.close
     (tie.spec
@@ -166,6 +156,10 @@ reply_to_spec =
     part-count-deals-start
     part-count-deals-end
     count-deals-requires
-    refused-requires-4
-    returns-4
+    (λ c κs. tt)
+    (λ c.
+        let n = c.before.before in
+        let l = line n in
+        let few = lt-ltb (places l) (4 * length (deals_of (book l))) (omega (arith, counted n)) in
+        c.refused-then-places-deals.ensures ∙ sym (refused_reply_lem (book l) (places l) 13 refl (short l, ((passed n).0, ((passed n).1, few)))))
     returns-5)
