@@ -44,5 +44,5 @@ back WrongCondition = refl
 back RecordNotAccepted = refl
 
 -- a number is that of one answer, so a promise about the number determines the answer
-pub number-unique : (a b : Answer) → answer_number a ≡ answer_number b → a ≡ b
-number-unique a b e = sym (back a) ∙ ap answer_of e ∙ back b
+pub number_unique : (a b : Answer) → answer_number a ≡ answer_number b → a ≡ b
+number_unique a b e = sym (back a) ∙ ap answer_of e ∙ back b

@@ -69,7 +69,7 @@ pub fn full_report(
     guarantees: GuaranteeList,
     factors: TimeFactors,
 ) -> Report
-    requires guarantees_value { accepted_of (deal_of terms collateral guarantees) ≡ true }
+    requires accepted_deal { accepted_of (deal_of terms collateral guarantees) ≡ true }
     requires time_factors_of { TimeFactorsOf terms factors }
     ensures { result ≡ full_report (table_for terms) (view_of (deal_of terms collateral guarantees)) }
 {
@@ -101,8 +101,8 @@ pub fn full_report(
 impl Report {
     // Reporting a deal. Its one refusal is a record that is not accepted.
     pub fn of(deal: Deal) -> Report
-        ensures answer_value { (answer_number result.answer ≡ report_refusal deal) × (result ≡ report_of deal) }
-        ensures collateral_value { (map (λ p. place_of p.outcome) result.collateral ≡ collateral_by_number deal) × (map (λ p. place_of p.outcome) result.guarantees ≡ guarantees_by_number deal) }
+        ensures report { (answer_number result.answer ≡ report_refusal deal) × (result ≡ report_of deal) }
+        ensures by_number { (map (λ p. place_of p.outcome) result.collateral ≡ collateral_by_number deal) × (map (λ p. place_of p.outcome) result.guarantees ≡ guarantees_by_number deal) }
     {
         if !deal.accepted() {
             return refused();

@@ -25,9 +25,9 @@ pub fn respond(
     list: &mut [u64; 65536],
     notice: &mut [u8; 1376285],
 ) -> Lengths
-    ensures fact { let text = book_written book.now in
+    ensures book_printed { let text = book_written book.now in
         (result.book ≡ length text) × (buffer.new ≡ text ++ drop (length text) buffer.old) }
-    ensures fact_2 { let text = notice_written book.now in
+    ensures notice_printed { let text = notice_written book.now in
         (result.notice ≡ length text) × (notice.new ≡ text ++ drop (length text) notice.old) }
     ensures list_after { list.new ≡ numbers_after book.now 65536 list.old }
 {

@@ -11,7 +11,7 @@ use result::write_result;
 
 // What is printed for a book, from the front of a buffer, and its length. List and buffer have room for 2,048 deals.
 pub fn respond(book: &[u8], results: &mut [u64; 8192], out: &mut [u8; 172061]) -> usize
-    ensures fact { let text = printed book.now in
+    ensures text_printed { let text = printed book.now in
         (result ≡ length text) × (out.new ≡ text ++ drop (length text) out.old) }
     ensures results_after { results.new ≡ results_after book.now results.old }
 {

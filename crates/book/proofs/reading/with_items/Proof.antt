@@ -190,15 +190,15 @@ with_items_spec =
     enum-told-2
     refused-requires
     (λ c.
-        let m = c.before.before in
-        let e = line-ended m in
-        let l = (looped m).loop-end in
-        let r = c.refused.ensures in
-        let passed = passed_line _ _ _ _ _ l.invariant.passed _ (ends e) e.line_end-end.ensures in (
-          passed_on _ _ _ _ _ passed _ _ r.1,
-          held_refused _ _ _ _ _ _ _ _ l.invariant _ (ends e) e.line_end-end.ensures (done m) (ne_eqb m.match-line.refusal 0 (λ z. omega (arith, z)))
-              ∙ sym (componentwise r.0.0 r.0.1.0 r.0.1.1),
-        ))
+    let m = c.before.before in
+    let e = line-ended m in
+    let l = (looped m).loop-end in
+    let r = c.refused.ensures in
+    let passed = passed_line _ _ _ _ _ l.invariant.passed _ (ends e) e.line_end-end.ensures in (
+      passed_on _ _ _ _ _ passed _ _ r.1,
+      held_refused _ _ _ _ _ _ _ _ l.invariant _ (ends e) e.line_end-end.ensures (done m) (ne_eqb m.match-line.refusal 0 (λ z. omega (arith, z)))
+          ∙ sym (componentwise r.0.0 r.0.1.0 r.0.1.1),
+    ))
     add-next-2
     loop-less
     loop-again

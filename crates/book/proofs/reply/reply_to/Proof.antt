@@ -158,8 +158,8 @@ reply_to_spec =
     count-deals-requires
     (λ c κs. tt)
     (λ c.
-        let n = c.before.before in
-        let l = line n in
-        let few = lt-ltb (places l) (4 * length (deals_of (book l))) (omega (arith, counted n)) in
-        c.refused-then-places-deals.ensures ∙ sym (refused_reply_lem (book l) (places l) 13 refl (short l, ((passed n).0, ((passed n).1, few)))))
+    let n = c.before.before in
+    let l = line n in
+    let few = lt-ltb (places l) (4 * length (deals_of (book l))) (omega (arith, counted n)) in
+    c.refused-then-places-deals.ensures ∙ sym (refused_reply_lem (book l) (places l) 13 refl (short l, ((passed n).0, ((passed n).1, few)))))
     returns-5)
