@@ -1,5 +1,5 @@
 -- The laws of answers and their numbers. Assumes nothing.
-use Rattle.std.specs.Prelude.{ℕ, ◌≡◌, Bool, true, false, [], ◌∷◌, get_or, eqb, Result, Ok, Err, ⊤, is_ok}
+use Rattle.std.specs.Prelude.{ℕ, ◌≡◌, Bool, [], ◌∷◌, get_or, eqb, Result, Ok, Err, ⊤, is_ok}
 use mathlib.Core.Path.{refl, sym, ap, ◌∙◌}
 use Rattle.deal.specs.Answers.{answer_number, refusal_number}
 use Rattle.deal.specs.declared.refusal.Refusal.{Refusal}

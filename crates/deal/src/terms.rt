@@ -7,11 +7,11 @@ ghost use Rattle.deal.specs.Parties.{counterparty_known, party_steps_allowed};
 ghost use Rattle.deal.specs.Ranges.{days_allowed, days_limit, interval_allowed};
 ghost use Rattle.deal.specs.Terms.{kind_known, terms_refusal};
 
-use crate::refusal::Refusal;
 use crate::asset::Asset;
 use crate::checks::FieldChecks;
 use crate::party::Party;
 use crate::ranges::{amount_allowed, currency_allowed, days_allowed, interval_allowed};
+use crate::refusal::Refusal;
 use base::within;
 use tables::kinds::{REPO_STYLE, SECURED_LENDING};
 

@@ -1,9 +1,8 @@
 -- `deal::collateral::CollateralList::add`: 6 first, then the item's own tests; nothing changes beside a refusal. Assumes nothing.
-use Rattle.std.proofs.Common.{◌≡◌, ◌+◌, ap, sym, ◌∙◌, rules}
+use Rattle.std.proofs.Common.{◌+◌, ap, ◌∙◌, rules}
 use Rattle.deal.specs.Answers.{answer_number}
 use Rattle.deal.specs.Lists.{items_with, unless_refused}
 use Rattle.deal.specs.Collateral.{append_collateral, collateral_list_refusal, collateral_list_tests, collateral_list_with, collateral_refusal, collateral_tests}
-use Rattle.deal.specs.declared.collateral.CollateralList.{CollateralList}
 use Rattle.deal.proofs.Lists.{answered_by_list, parts_unless_refused}
 use Rattle.deal.proofs.collateral.CollateralList.add.Goals as goal
 

@@ -1,9 +1,8 @@
 -- `deal::guarantee::GuaranteeList::add`: 6 first, then the item's own tests; nothing changes beside a refusal. Assumes nothing.
-use Rattle.std.proofs.Common.{◌≡◌, ◌+◌, ap, sym, ◌∙◌, rules}
+use Rattle.std.proofs.Common.{◌+◌, ap, ◌∙◌, rules}
 use Rattle.deal.specs.Answers.{answer_number}
 use Rattle.deal.specs.Lists.{items_with, unless_refused}
 use Rattle.deal.specs.Guarantees.{append_guarantee, guarantee_list_refusal, guarantee_list_tests, guarantee_list_with, guarantee_refusal, guarantee_tests}
-use Rattle.deal.specs.declared.guarantee.GuaranteeList.{GuaranteeList}
 use Rattle.deal.proofs.Lists.{answered_by_list, parts_unless_refused}
 use Rattle.deal.proofs.guarantee.GuaranteeList.add.Goals as goal
 
