@@ -1,10 +1,10 @@
 -- The parts of a report, as the code puts them together. Assumes nothing.
 use Prim.Native.Nat.{ℕ}
-use mathlib.Core.Path.{◌≡◌, sym, ◌∙◌}
-use mathlib.Core.List.{List, map, zip_with, ◌++◌}
-use lib.ListN.{length, take, drop, replicate, length-map}
+use mathlib.Core.Path.{ap, ◌≡◌, sym, ◌∙◌}
+use mathlib.Core.List.{List, map, zip_with}
+use lib.ListN.{length, take, length-map}
 use Rattle.base.specs.Places.{in_places}
-use Rattle.base.proofs.Places.{placed, taken, zip_map, length_zip}
+use Rattle.base.proofs.Places.{taken, zip_map}
 use Rattle.tables.specs.Table.{Table}
 use Rattle.cover.specs.Cover.{cover_of}
 use Rattle.cover.specs.declared.protection.Protection.{Protection}

@@ -26,17 +26,18 @@ pub struct TimedTerms {
 }
 
 impl TimeFactors {
-    // Of no period that a deal has.
-    pub const NONE: TimeFactors = TimeFactors {
-        deal: TimeFactor {
+    // Of no period that a deal has. A function and no constant, so that what their types promise is proved once.
+    #[tactic(auto, using(scaling::proofs::Below::factor_none))]
+    pub fn none() -> TimeFactors {
+        let factor = TimeFactor {
             period: 0,
             millionths: 0,
-        },
-        guarantees: TimeFactor {
-            period: 0,
-            millionths: 0,
-        },
-    };
+        };
+        TimeFactors {
+            deal: factor,
+            guarantees: factor,
+        }
+    }
 
     #[tactic(auto, using(deal::proofs::Plain::plain_terms, scaling::proofs::Periods::period_bound, scaling::proofs::Periods::guarantee_bound))]
     // Those of a deal, some of which may be at hand.

@@ -116,8 +116,11 @@ impl TimedTerms {
             provider.step,
             provider.sovereign_step,
         );
-        let haircut =
-            scaled_currency_haircut(self.factors.guarantees, item.currency, terms.currency);
+        let haircut = scaled_currency_haircut(
+            self.factors.guarantees,
+            item.currency,
+            terms.currency,
+        );
         let outcome = outcome_after_haircut(terms, item, haircut, weight, counterparty_weight);
         ValuedGuarantee {
             outcome,

@@ -1,9 +1,9 @@
 // The report of a deal: the exposure after collateral, what became of every item, and the weighted amount.
 ghost use Rattle.std.specs.Prelude.{true, map, ◌≡◌};
 ghost use Rattle.deal.specs.Answers.{answer_number};
-ghost use Rattle.deal.specs.Records.{accepted as accepted_of, deal_of};
+ghost use Rattle.deal.specs.Records.{accepted as accepted_of};
 ghost use Rattle.deal.specs.Editions.{table_for};
-ghost use Rattle.deal.specs.Views.{view_of};
+ghost use Rattle.deal.specs.Views.{accepted_view, view_on};
 ghost use Rattle.relief.specs.ByNumber.{collateral_by_number, guarantees_by_number, place_of};
 ghost use Rattle.relief.specs.Report.{full_report, refused_report, report_of, report_refusal};
 
@@ -12,9 +12,9 @@ use crate::factors::{TimeFactors, TimedTerms};
 use crate::guarantee::GuaranteeReport;
 use crate::portions::with_portions;
 use cover::cover::cover;
-use deal::collateral::CollateralList;
+use deal::collateral::Collateral;
 use deal::deal::Deal;
-use deal::guarantee::GuaranteeList;
+use deal::guarantee::Guarantee;
 use deal::refusal::Refusal;
 use valuation::exposure::risk_weighted_amount;
 
@@ -47,22 +47,17 @@ pub fn refused() -> Report
     }
 }
 
-// The report of an accepted deal on these terms, with these lists.
-pub fn full_report(
-    deal: &TimedTerms,
-    collateral: &CollateralList,
-    guarantees: &GuaranteeList,
-) -> Report
-    requires { accepted_of (deal_of deal.now.terms collateral.now guarantees.now) ≡ true }
-    ensures { result ≡ full_report (table_for deal.now.terms) (view_of (deal_of deal.now.terms collateral.now guarantees.now)) }
+// The report of an accepted deal on these terms, with these items.
+pub fn full_report(deal: &TimedTerms, collateral: &[Collateral], guarantees: &[Guarantee]) -> Report
+    requires { accepted_view (view_on deal.now.terms collateral.now guarantees.now) ≡ true }
+    ensures { result ≡ full_report (table_for deal.now.terms) (view_on deal.now.terms collateral.now guarantees.now) }
 {
     let weight = deal.weight();
-    let count = guarantees.count;
-    let pledged = deal.value_collateral(&collateral.items[..collateral.count]);
-    let guaranteed = deal.value_guarantees(&guarantees.items[..count], weight);
+    let pledged = deal.value_collateral(collateral);
+    let guaranteed = deal.value_guarantees(guarantees, weight);
     let exposure = deal.exposure_after(pledged.total);
-    let protections = guaranteed.protections;
-    let covered = cover(protections, count, exposure, weight);
+    let count = guarantees.len();
+    let covered = cover(&guaranteed.protections[..count], exposure, weight);
     let reports = with_portions(&guaranteed.reports[..count], &covered.portions[..count]);
     let pledges = pledged.reports;
     Report {
@@ -84,7 +79,13 @@ impl Report {
         if !deal.accepted() {
             return refused();
         }
-        let timed = TimeFactors::NONE.for_terms(deal.terms);
-        full_report(&timed, &deal.collateral, &deal.guarantees)
+        let timed = TimeFactors::none().for_terms(deal.terms);
+        let collateral = deal.collateral;
+        let guarantees = deal.guarantees;
+        full_report(
+            &timed,
+            &collateral.items[..collateral.count],
+            &guarantees.items[..guarantees.count],
+        )
     }
 }

@@ -1,5 +1,5 @@
 -- `relief::portions::with_portions`: after i items the first i places are filled. Assumes nothing.
-use Rattle.std.proofs.Common.{◌≡◌, ◌∙◌, ◌<◌, refl, arith, length}
+use Rattle.std.proofs.Common.{◌≡◌, ◌∙◌, refl, arith, length}
 use lib.Seq.{take-length}
 use mathlib.Core.List.{zip_with}
 use Rattle.base.proofs.Places.{length_zip, placed, zip_more}

@@ -1,5 +1,5 @@
 -- `relief::collateral::TimedTerms::value_collateral`: what a further item adds. Assumes nothing.
-use Rattle.std.proofs.Common.{ℕ, List, true, ◌≡◌, ◌≤◌, ◌<◌, ◌∙◌, refl, sym, arith, length, eqb, get_or, le_trans, map}
+use Rattle.std.proofs.Common.{ℕ, List, true, ◌≡◌, ◌≤◌, ◌<◌, refl, sym, arith, length, eqb, get_or, le_trans, map}
 use lib.Seq.{take-length}
 use borrow.Author.Tests.{eqb-true}
 use lib.ListN.{length-map}

@@ -1,5 +1,5 @@
 -- `relief::guarantees::TimedTerms::value_guarantees`: what a further item adds. Assumes nothing.
-use Rattle.std.proofs.Common.{ℕ, ◌≡◌, ◌≤◌, ◌<◌, refl, arith, length, eqb, get_or, map}
+use Rattle.std.proofs.Common.{◌≡◌, ◌<◌, refl, arith, length, eqb, map}
 use lib.Seq.{take-length}
 use lib.ListN.{length-map}
 use borrow.Author.Tests.{eqb-true}

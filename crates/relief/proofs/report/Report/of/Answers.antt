@@ -3,11 +3,14 @@ use Rattle.std.proofs.Common.{◌≡◌, ◌∙◌, ap, sym, map, true, false, [
 use Rattle.base.specs.FirstMet.{first_or}
 use Rattle.base.proofs.FirstMet.{met_first, not_met}
 use Rattle.base.proofs.Tests.{not_false, not_true, told_false, told_true}
-use Rattle.scaling.proofs.Factors.{factor_none}
 use Rattle.deal.specs.Answers.{answer_number, refusal_number}
 use Rattle.deal.specs.Records.{accepted}
 use Rattle.deal.specs.declared.deal.Deal.{Deal}
+use Rattle.deal.specs.Editions.{table_for}
+use Rattle.deal.specs.Views.{view_of}
 use Rattle.deal.proofs.Deals.{accepted_allowed, allowed_parts}
+use Rattle.deal.proofs.Plain.{collateral_count, guarantee_count}
+use Rattle.deal.proofs.Views.{accepted_view_lem}
 use Rattle.relief.specs.ByNumber.{place_of, collateral_by_number, guarantees_by_number}
 use Rattle.relief.specs.Report.{full_report, report_of, report_refusal}
 use Rattle.relief.specs.declared.report.Report.{Report}
@@ -33,8 +36,14 @@ returns-then-not-accepted-clause-by_number c =
     let d = c.args.deal in
     by_number d _ (c.refused.ensures ∙ sym (report_refused _ d (told_false _ _ c.accepted.ensures c.if-not-accepted.true)))
 
-pub invariant_of-for_terms : goal.invariant_of-for_terms
-invariant_of-for_terms c = factor_none
+pub shared_ref_as_front-full_report : goal.shared_ref_as_front-full_report
+shared_ref_as_front-full_report c = collateral_count _ (allowed_parts _ (accepted_allowed _ (told_true _ _ c.accepted.ensures c.if-not-accepted.false))).1.0
+
+pub shared_ref_as_front-full_report-2 : goal.shared_ref_as_front-full_report-2
+shared_ref_as_front-full_report-2 c = guarantee_count _ (allowed_parts _ (accepted_allowed _ (told_true _ _ c.accepted.ensures c.if-not-accepted.false))).1.1
+
+pub full_report-requires : goal.full_report-requires
+full_report-requires c = rw c.for_terms-timed.ensures (accepted_view_lem c.args.deal (told_true _ _ c.accepted.ensures c.if-not-accepted.false))
 
 pub for_terms-timed-requires : goal.for_terms-timed-requires
 for_terms-timed-requires c = (allowed_parts _ (accepted_allowed _ (told_true _ _ c.accepted.ensures c.if-not-accepted.false))).0
@@ -44,9 +53,11 @@ unfolding report_refusal full_report answer_number refusal_number first_or
 returns-clause-report c =
     let d = c.args.deal in
     let e : accepted d ≡ true = told_true _ _ c.accepted.ensures c.if-not-accepted.false in
-    (ap (λ x. answer_number x.answer) c.full_report.ensures ∙ sym (not_met 40 _ [] (not_false _ e)), c.full_report.ensures ∙ sym (report_accepted _ d e))
+    let r : c.full_report.result ≡ full_report (table_for d.terms) (view_of d) = rw c.for_terms-timed.ensures at c.full_report.ensures in
+    (ap (λ x. answer_number x.answer) r ∙ sym (not_met 40 _ [] (not_false _ e)), r ∙ sym (report_accepted _ d e))
 
 pub returns-clause-by_number : goal.returns-clause-by_number
 returns-clause-by_number c =
     let d = c.args.deal in
-    by_number d _ (c.full_report.ensures ∙ sym (report_accepted _ d (told_true _ _ c.accepted.ensures c.if-not-accepted.false)))
+    let r : c.full_report.result ≡ full_report (table_for d.terms) (view_of d) = rw c.for_terms-timed.ensures at c.full_report.ensures in
+    by_number d _ (r ∙ sym (report_accepted _ d (told_true _ _ c.accepted.ensures c.if-not-accepted.false)))
