@@ -11,8 +11,8 @@ pub struct Number {
     pub digits: usize,
 }
 
-#[tactic(auto, using(crate::proofs::NumberLaws::none_passed, crate::proofs::NumberLaws::fits))]
 // The number that a text starts with. It ends before the first byte that is no digit.
+#[tactic(auto, using(crate::proofs::NumberLaws::none_passed, crate::proofs::NumberLaws::fits))]
 pub fn read_number(text: &[u8]) -> Option<Number>
     ensures { result ≡ number_of text.now }
 {
@@ -29,8 +29,8 @@ pub fn read_number(text: &[u8]) -> Option<Number>
     ended(text, value, text.len())
 }
 
-#[tactic(auto, using(crate::proofs::NumberLaws::no_digit, crate::proofs::NumberLaws::zero_led, crate::proofs::NumberLaws::one_digit, crate::proofs::NumberLaws::led))]
 // What so many digits at the start of a text are, where they have this value.
+#[tactic(auto, using(crate::proofs::NumberLaws::no_digit, crate::proofs::NumberLaws::zero_led, crate::proofs::NumberLaws::one_digit, crate::proofs::NumberLaws::led))]
 fn ended(text: &[u8], value: u64, digits: usize) -> Option<Number>
     requires { (digits ≤ length text.now) × (digits ≤ 13) }
     ensures { result ≡ number_read (take digits text.now) value digits }
