@@ -11,7 +11,6 @@ pub mod fields;
 mod group;
 mod haircuts;
 mod nets;
-mod once;
 pub mod position;
 mod refusal;
 pub mod set;

@@ -2,9 +2,9 @@
 ghost use Rattle.std.specs.Prelude.{◌≡◌};
 ghost use Rattle.netting.specs.Reply.{refused_reply, set_reply};
 
-use crate::exposure::{exposure_after_netting, weight_of};
+use crate::exposure::weight_of;
+use crate::haircuts::AcceptedSet;
 use crate::position::Position;
-use crate::refusal::set_refusal;
 use crate::terms::SetTerms;
 use valuation::exposure::risk_weighted_amount;
 
@@ -48,18 +48,16 @@ impl NettingSet {
     pub fn reply(self) -> NettingReply
         ensures { result ≡ set_reply self }
     {
-        let terms = self.terms;
-        let positions = self.positions;
-        let count = self.count;
-        let refusal = set_refusal(terms, positions, count);
+        let refusal = self.refusal();
         if refusal != 0 {
             return refused(refusal);
         }
-        let exposure = exposure_after_netting(terms, positions, count);
+        let set = AcceptedSet::new(self.terms, &self.positions[..self.count]);
+        let exposure = set.exposure_after_netting();
         NettingReply {
             refusal: 0,
             exposure,
-            rwa: risk_weighted_amount(exposure * weight_of(terms)),
+            rwa: risk_weighted_amount(exposure * weight_of(self.terms)),
         }
     }
 }

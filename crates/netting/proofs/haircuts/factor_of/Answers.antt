@@ -1,0 +1,15 @@
+use Rattle.std.proofs.Common.{◌∙◌, arith}
+use Rattle.tables.specs.Kinds.{repo_style}
+use Rattle.scaling.proofs.Periods.{period_bound}
+use Rattle.netting.proofs.HaircutBounds.{repo_period}
+use Rattle.netting.proofs.haircuts.factor_of.Goals as goal
+
+pub of_period-requires : goal.of_period-requires
+of_period-requires c = omega (arith, c.holding_period.ensures, period_bound repo_style c.args.terms.interval)
+
+pub returns : goal.returns
+returns c =
+    record {
+      period_is = c.of_period.ensures.0 ∙ c.holding_period.ensures ∙ repo_period c.args.terms;
+      factor_is = c.of_period.ensures.1;
+    }
