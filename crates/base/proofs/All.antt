@@ -7,6 +7,7 @@ use native.Mathlib.Omega.{arith}
 use native.Mathlib.Nat.{le_of_suc-le-suc, not-suc-le-zero}
 use native.Mathlib.Numerals.{add-one}
 use lib.ListN.{length, take, set, get_or}
+use Rattle.std.specs.List.{list_all}
 use Rattle.base.specs.All.{all_pass}
 use Rattle.base.proofs.Every.{both}
 use Rattle.base.proofs.Tests.{and_true, and_first, and_second}
@@ -61,3 +62,8 @@ all_map f p (x ∷ xs) = ap (λ b. p (f x) && b) (all_map f p xs)
 pub all_implied : {A : Type 0} (p q : A → Bool) → ((x : A) → p x ≡ true → q x ≡ true) → (xs : List A) → all_pass xs p ≡ true → all_pass xs q ≡ true
 all_implied p q h [] e = refl
 all_implied p q h (x ∷ xs) e = let b = both (p x) (all_pass xs p) e in and_true _ _ (h x b.0) (all_implied p q h xs b.1)
+
+-- the library's word for it
+pub all_listed : {A : Type 0} (p : A → Bool) (xs : List A) → list_all p xs ≡ all_pass xs p
+all_listed p [] = refl
+all_listed p (x ∷ xs) = ap (λ b. p x && b) (all_listed p xs)

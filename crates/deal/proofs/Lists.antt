@@ -1,7 +1,8 @@
 -- What the lists of a deal have in common, whatever their items are: counted items that adding takes, and one more of them.
 -- Assumes nothing.
 use Prim.Native.Nat.{ℕ, ◌+◌, ◌≤◌, ◌<◌}
-use mathlib.Core.Path.{◌≡◌, refl}
+use Rattle.std.proofs.Common.{if◌then◌else◌}
+use mathlib.Core.Path.{◌≡◌, refl, ap, ◌∙◌}
 use mathlib.Core.Bool.{Bool, true, false}
 use mathlib.Core.List.{List}
 use native.Mathlib.Omega.{arith}
@@ -9,12 +10,12 @@ use lib.Dec.{leb, eqb}
 use lib.ListN.{length, take, get_or}
 use borrow.Author.Tests.{le-leb, lt-leb, leb-true, leb-false, eq-eqb, eqb-true}
 use Rattle.base.specs.All.{all_pass}
-use Rattle.base.specs.FirstMet.{Test, first_met}
+use Rattle.base.specs.FirstMet.{Test, first_met, first_or}
 use Rattle.base.proofs.All.{all_at, all_more, all_not, all_set}
 use Rattle.base.proofs.Every.{both}
 use Rattle.base.proofs.FirstMet.{distinct, met_first, none_exactly, none_met, not_met}
 use Rattle.base.proofs.Tests.{and_true, and_first, and_second}
-use Rattle.deal.specs.Lists.{items_with, list_allowed, list_limit, list_tests}
+use Rattle.deal.specs.Lists.{items_with, list_allowed, list_limit, list_tests, unless_refused}
 
 module _ {A : Type 0} (refusal : A → ℕ) (items : List A) (count : ℕ) where
   abbrev passes : A → Bool
@@ -63,3 +64,18 @@ still_allowed tests items count x d e h =
     let counted = (both (leb count list_limit) _ h).1 in
     and_true _ _ (le-leb (count + 1) list_limit (omega (arith, leb-false list_limit count n.0)))
     (all_set (λ y. eqb (first_met (tests y)) 0) count items x counted (eq-eqb _ 0 (none_met (tests x) n.1)))
+
+-- what adding answers, told by whether the list is full and what its item's tests give
+pub answered_by_list : {A : Type 0} (tests : A → List (Test ℕ)) (items : List A) (count : ℕ) (x : A) {n : ℕ} → length items ≡ list_limit →
+    n ≡ (if leb (length items) count then 6 else first_met (tests x)) → n ≡ first_met (list_tests tests count x)
+unfolding first_or
+answered_by_list tests items count x fits e = e ∙ ap (λ l. if leb l count then 6 else first_met (tests x)) fits
+
+-- parts of which each stays beside a refusal
+pub parts_unless_refused : {A B C : Type 0} (whole : A → B → C) (refusal : ℕ) (a₁ a₀ : A) (b₁ b₀ : B) {a : A} {b : B} → a ≡ unless_refused refusal a₁ a₀ →
+    b ≡ unless_refused refusal b₁ b₀ → whole a b ≡ unless_refused refusal (whole a₁ b₁) (whole a₀ b₀)
+parts_unless_refused whole refusal a₁ a₀ b₁ b₀ p q = rw (p, q) (go (eqb refusal 0))
+  where
+    go : (t : Bool) → whole (if t then a₁ else a₀) (if t then b₁ else b₀) ≡ (if t then whole a₁ b₁ else whole a₀ b₀)
+    go true = refl
+    go false = refl

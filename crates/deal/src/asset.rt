@@ -29,6 +29,7 @@ impl Asset {
         within(CASH, GOLD, self.goods)
     }
 
+    #[tactic(auto, unfolding(crate::specs::Assets::asset_step_allowed))]
     pub fn step_allowed(self) -> bool
         ensures { result ≡ asset_step_allowed self }
     {
@@ -38,6 +39,7 @@ impl Asset {
         self.step == 0
     }
 
+    #[tactic(auto, unfolding(crate::specs::Assets::life_allowed))]
     pub fn life_allowed(self) -> bool
         ensures { result ≡ life_allowed days_limit self }
     {

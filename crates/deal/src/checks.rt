@@ -4,7 +4,7 @@ ghost use Rattle.base.specs.FirstMet.{first_met};
 ghost use Rattle.deal.specs.Answers.{answer_number};
 ghost use Rattle.deal.specs.Checks.{field_tests};
 
-use crate::answer::Answer;
+use crate::refusal::Refusal;
 
 // Whether each kind of field is as it should be, in the order of the refusals.
 #[derive(Clone, Copy)]
@@ -23,30 +23,31 @@ pub struct FieldChecks {
 
 impl FieldChecks {
     // The first refusal that is due.
-    pub fn answer(self) -> Answer
+    #[tactic(auto, unfolding(crate::specs::Answers::answer_number, crate::specs::Answers::refusal_number, base::specs::FirstMet::first_or))]
+    pub fn answer(self) -> Result<(), Refusal>
         ensures { answer_number result ≡ first_met (field_tests self) }
     {
         if !self.amount {
-            return Answer::AmountAboveLimit;
+            return Err(Refusal::AmountAboveLimit);
         }
         if !self.codes {
-            return Answer::UnknownCode;
+            return Err(Refusal::UnknownCode);
         }
         if !self.steps {
-            return Answer::WrongStep;
+            return Err(Refusal::WrongStep);
         }
         if !self.currency {
-            return Answer::WrongCurrency;
+            return Err(Refusal::WrongCurrency);
         }
         if !self.ranges {
-            return Answer::OutsideRange;
+            return Err(Refusal::OutsideRange);
         }
         if !self.maturity {
-            return Answer::ResidualAboveOriginal;
+            return Err(Refusal::ResidualAboveOriginal);
         }
         if !self.conditions {
-            return Answer::WrongCondition;
+            return Err(Refusal::WrongCondition);
         }
-        Answer::Accepted
+        Ok(())
     }
 }

@@ -3,11 +3,12 @@ ghost use Rattle.std.specs.Prelude.{◌≡◌};
 ghost use Rattle.deal.specs.Answers.{answer_number};
 ghost use Rattle.deal.specs.Collateral.{empty_collateral, collateral_list_allowed, collateral_list_refusal, collateral_list_with, collateral_refusal};
 
-use crate::answer::Answer;
 use crate::asset::Asset;
 use crate::checks::FieldChecks;
 use crate::deal::Deal;
+use crate::list::{Added, Item, all_allowed, put_item};
 use crate::ranges::{amount_allowed, condition_allowed, currency_allowed, days_allowed};
+use crate::refusal::Refusal;
 
 #[derive(Clone, Copy)]
 pub struct Collateral {
@@ -31,13 +32,6 @@ pub struct CollateralList {
     pub count: usize,
 }
 
-// A list after an addition, and what adding answers. The list stands first, which spares the code that is made a copy.
-#[derive(Clone, Copy)]
-pub struct AddedCollateral {
-    pub list: CollateralList,
-    pub answer: Answer,
-}
-
 impl Collateral {
     pub const ZERO: Collateral = Collateral {
         amount: 0,
@@ -54,9 +48,13 @@ impl Collateral {
         not_in_rating: 0,
         listed: 0,
     };
+}
 
-    // The first refusal that its own fields meet.
-    pub fn check(self) -> Answer
+impl Item for Collateral {
+    ghost refusal = { collateral_refusal };
+
+    #[tactic(auto, unfolding(crate::specs::Collateral::collateral_refusal, crate::specs::Collateral::collateral_tests))]
+    fn check(self) -> Result<(), Refusal>
         ensures { answer_number result ≡ collateral_refusal self }
     {
         let asset = self.asset;
@@ -90,39 +88,22 @@ impl CollateralList {
     }
 
     // Whether the count fits and no counted item would be refused.
+    #[tactic(auto, using(base::proofs::All::all_listed), unfolding(crate::specs::Collateral::collateral_list_allowed))]
     pub fn allowed(self) -> bool
         ensures { result ≡ collateral_list_allowed self }
     {
-        let items = self.items;
-        let count = self.count;
-        if count > Deal::COLLATERAL_LIMIT {
-            return false;
-        }
-        let mut i: usize = 0;
-        while i < count {
-            let item = items[i];
-            let answer = item.check();
-            if !answer.is_accepted() {
-                return false;
-            }
-            i += 1;
-        }
-        true
+        self.count <= Deal::COLLATERAL_LIMIT && all_allowed(&self.items[..self.count])
     }
 
+    #[tactic(auto, unfolding(crate::specs::Collateral::collateral_list_with, crate::specs::Collateral::collateral_list_refusal, crate::specs::Collateral::collateral_list_tests, base::specs::FirstMet::first_or))]
     // One item more, behind the counted ones; the same list beside a refusal.
-    pub fn add(mut self, item: Collateral) -> AddedCollateral
-        ensures { (result.list ≡ collateral_list_with self item) × (answer_number result.answer ≡ collateral_list_refusal self item) }
+    pub fn add(mut self, item: Collateral) -> Added<CollateralList>
+        ensures { (result.after ≡ collateral_list_with self item) × (answer_number result.answer ≡ collateral_list_refusal self item) }
     {
-        let at = self.count;
-        let mut answer = Answer::ListFull;
-        if at < Deal::COLLATERAL_LIMIT {
-            answer = item.check();
-            if answer.is_accepted() {
-                self.items[at] = item;
-                self.count = at + 1;
-            }
+        let answer = put_item(&mut self.items, &mut self.count, item);
+        Added {
+            after: self,
+            answer,
         }
-        AddedCollateral { list: self, answer }
     }
 }

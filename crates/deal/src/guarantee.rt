@@ -4,12 +4,13 @@ ghost use Rattle.deal.specs.Answers.{answer_number};
 ghost use Rattle.deal.specs.Guarantees.{empty_guarantees, guarantee_list_allowed, guarantee_list_refusal, guarantee_list_with, guarantee_refusal};
 ghost use Rattle.deal.specs.Instruments.{as_swap};
 
-use crate::answer::Answer;
 use crate::checks::FieldChecks;
 use crate::deal::Deal;
 use crate::instrument::{GUARANTEE, instrument_allowed, swap_with};
+use crate::list::{Added, Item, all_allowed, put_item};
 use crate::party::Party;
 use crate::ranges::{amount_allowed, condition_allowed, currency_allowed, days_allowed};
+use crate::refusal::Refusal;
 
 #[derive(Clone, Copy)]
 pub struct Guarantee {
@@ -31,13 +32,6 @@ pub struct Guarantee {
 pub struct GuaranteeList {
     pub items: [Guarantee; Deal::GUARANTEE_LIMIT],
     pub count: usize,
-}
-
-// A list after an addition, and what adding answers. The list stands first, which spares the code that is made a copy.
-#[derive(Clone, Copy)]
-pub struct AddedGuarantee {
-    pub list: GuaranteeList,
-    pub answer: Answer,
 }
 
 impl Guarantee {
@@ -64,9 +58,13 @@ impl Guarantee {
         self.instrument = swap_with(restructuring);
         self
     }
+}
 
-    // The first refusal that its own fields meet.
-    pub fn check(self) -> Answer
+impl Item for Guarantee {
+    ghost refusal = { guarantee_refusal };
+
+    #[tactic(auto, unfolding(crate::specs::Guarantees::guarantee_refusal, crate::specs::Guarantees::guarantee_tests))]
+    fn check(self) -> Result<(), Refusal>
         ensures { answer_number result ≡ guarantee_refusal self }
     {
         let provider = self.provider;
@@ -98,39 +96,22 @@ impl GuaranteeList {
     }
 
     // Whether the count fits and no counted item would be refused.
+    #[tactic(auto, using(base::proofs::All::all_listed), unfolding(crate::specs::Guarantees::guarantee_list_allowed))]
     pub fn allowed(self) -> bool
         ensures { result ≡ guarantee_list_allowed self }
     {
-        let items = self.items;
-        let count = self.count;
-        if count > Deal::GUARANTEE_LIMIT {
-            return false;
-        }
-        let mut i: usize = 0;
-        while i < count {
-            let item = items[i];
-            let answer = item.check();
-            if !answer.is_accepted() {
-                return false;
-            }
-            i += 1;
-        }
-        true
+        self.count <= Deal::GUARANTEE_LIMIT && all_allowed(&self.items[..self.count])
     }
 
+    #[tactic(auto, unfolding(crate::specs::Guarantees::guarantee_list_with, crate::specs::Guarantees::guarantee_list_refusal, crate::specs::Guarantees::guarantee_list_tests, base::specs::FirstMet::first_or))]
     // One guarantee or swap more, behind the counted ones; the same list beside a refusal.
-    pub fn add(mut self, item: Guarantee) -> AddedGuarantee
-        ensures { (result.list ≡ guarantee_list_with self item) × (answer_number result.answer ≡ guarantee_list_refusal self item) }
+    pub fn add(mut self, item: Guarantee) -> Added<GuaranteeList>
+        ensures { (result.after ≡ guarantee_list_with self item) × (answer_number result.answer ≡ guarantee_list_refusal self item) }
     {
-        let at = self.count;
-        let mut answer = Answer::ListFull;
-        if at < Deal::GUARANTEE_LIMIT {
-            answer = item.check();
-            if answer.is_accepted() {
-                self.items[at] = item;
-                self.count = at + 1;
-            }
+        let answer = put_item(&mut self.items, &mut self.count, item);
+        Added {
+            after: self,
+            answer,
         }
-        AddedGuarantee { list: self, answer }
     }
 }

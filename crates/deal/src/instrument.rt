@@ -3,8 +3,6 @@
 ghost use Rattle.std.specs.Prelude.{◌≡◌};
 ghost use Rattle.deal.specs.Instruments.{instrument_allowed, swap_with};
 
-use base::smaller;
-
 pub const GUARANTEE: u64 = 0;
 
 pub const SWAP_WITHOUT_RESTRUCTURING: u64 = 1;
@@ -15,7 +13,7 @@ pub const SWAP_WITH_RESTRUCTURING: u64 = 2;
 pub fn swap_with(restructuring: u64) -> u64
     ensures { result ≡ swap_with restructuring }
 {
-    SWAP_WITHOUT_RESTRUCTURING + smaller(restructuring, 2)
+    SWAP_WITHOUT_RESTRUCTURING + restructuring.min(2)
 }
 
 pub fn instrument_allowed(instrument: u64) -> bool

@@ -3,7 +3,6 @@
 
 #![tactic(auto)]
 
-pub mod answer;
 pub mod asset;
 pub mod checks;
 pub mod collateral;
@@ -11,6 +10,8 @@ pub mod deal;
 pub mod fields;
 pub mod guarantee;
 pub mod instrument;
+pub mod list;
 pub mod party;
 pub mod ranges;
+pub mod refusal;
 pub mod terms;

@@ -39,18 +39,21 @@ impl Party {
         within(SOVEREIGN, OTHER_ENTITY, self.class)
     }
 
+    #[tactic(auto, using(crate::proofs::Steps::at_most_highest), unfolding(crate::specs::Parties::party_step_allowed))]
     fn step_allowed(self) -> bool
         ensures { result ≡ party_step_allowed self }
     {
         self.step <= highest_step(self.class == RETAIL)
     }
 
+    #[tactic(auto, using(crate::proofs::Steps::at_most_highest), unfolding(crate::specs::Parties::sovereign_step_allowed))]
     fn sovereign_step_allowed(self) -> bool
         ensures { result ≡ sovereign_step_allowed self }
     {
         self.sovereign_step <= highest_step((self.class == SOVEREIGN) | (self.class == RETAIL))
     }
 
+    #[tactic(auto, unfolding(crate::specs::Parties::party_steps_allowed))]
     // Its own step, and its sovereign's.
     pub fn steps_allowed(self) -> bool
         ensures { result ≡ party_steps_allowed self }

@@ -7,11 +7,11 @@ ghost use Rattle.deal.specs.Parties.{counterparty_known, party_steps_allowed};
 ghost use Rattle.deal.specs.Ranges.{days_allowed, days_limit, interval_allowed};
 ghost use Rattle.deal.specs.Terms.{kind_known, terms_refusal};
 
-use crate::answer::Answer;
 use crate::asset::Asset;
 use crate::checks::FieldChecks;
 use crate::party::Party;
 use crate::ranges::{amount_allowed, currency_allowed, days_allowed, interval_allowed};
+use crate::refusal::Refusal;
 use base::within;
 use tables::kinds::{REPO_STYLE, SECURED_LENDING};
 
@@ -95,8 +95,9 @@ impl Terms {
         interval_allowed(self.interval) & days_allowed(self.residual) & lent.life_allowed()
     }
 
+    #[tactic(auto, unfolding(crate::specs::Terms::terms_refusal, crate::specs::Terms::terms_tests))]
     // The first refusal that opening a deal on these terms meets.
-    pub fn check(self) -> Answer
+    pub fn check(self) -> Result<(), Refusal>
         ensures { answer_number result ≡ terms_refusal self }
     {
         let checks = FieldChecks {

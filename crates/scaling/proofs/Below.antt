@@ -4,7 +4,6 @@ use mathlib.Core.Path.{◌≡◌}
 use native.Mathlib.Omega.{arith}
 use native.Mathlib.Nat.{mul-le-mul, le_of_mul-le-mul_left}
 use native.Mathlib.Decide.{dec_le}
-use Rattle.scaling.specs.TimeFactor.{IsTimeFactor}
 use Rattle.scaling.specs.Scaling.{scaled}
 use Rattle.scaling.proofs.Scaled.{larger, scaled_is, scaled_le}
 
@@ -38,5 +37,5 @@ share_too_small H n w c h k e q = go (dec_le (H * H * n) (10 * c * c))
     go (no gt) = omega arith
 
 -- the factor of no period
-pub factor_none : IsTimeFactor (record { period = 0; millionths = 0 })
-factor_none = record { short = omega arith; scaled_millionths = omega (arith, scaled_le 1000000 0 {b = 0} (omega arith)) }
+pub factor_none : 0 ≡ scaled 1000000 0
+factor_none = omega (arith, scaled_le 1000000 0 {b = 0} (omega arith))

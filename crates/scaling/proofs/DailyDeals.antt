@@ -1,4 +1,5 @@
 -- What is asked for a deal that is revalued daily is stored: every table haircut, and its periods. Assumes nothing.
+use Rattle.std.specs.Prelude.{Some, None}
 use Prim.Native.Nat.{ℕ, ◌+◌, ◌-◌}
 use mathlib.Core.Path.{◌≡◌, ◌∙◌, refl, sym}
 use mathlib.Core.Bool.{true, false}
@@ -14,9 +15,7 @@ use Rattle.tables.proofs.EveryHaircut.{every_haircut, every_lent_haircut}
 use Rattle.scaling.specs.Period.{guarantee_period, holding_period, minimum_period}
 use Rattle.scaling.specs.Scaling.{scaled}
 use Rattle.scaling.specs.Stored.{figure_over, is_daily, is_stored, over_daily, stored_figures, stored_haircuts, stored_line}
-use Rattle.scaling.specs.TimeFactor.{IsTimeFactor}
 use Rattle.scaling.specs.declared.factor.TimeFactor.{TimeFactor}
-use Rattle.scaling.specs.declared.stored.Stored.TheVariants.{Figures, Nothing}
 use Rattle.scaling.proofs.StoredFigures.{over_right}
 
 pub every_haircut_stored : (edition goods step life : ℕ) → is_stored ((table_of edition).haircut goods step life) ≡ true
@@ -92,9 +91,9 @@ pub factors : over_daily 1000000 ≡ 707107 ∷ 1000000 ∷ 1414214 ∷ []
 unfolding scaled least between
 factors = refl
 
-pub daily_factor : (r : TimeFactor) → IsTimeFactor r → is_daily r.period ≡ true → r.millionths ≡ figure_over r.period 707107 1000000 1414214
+pub daily_factor : (r : TimeFactor) → is_daily r.period ≡ true → r.millionths ≡ figure_over r.period (707107 ∷ 1000000 ∷ 1414214 ∷ [])
 unfolding scaled least between
-daily_factor r f d = f.scaled_millionths ∙ sym (over_right 1000000 r.period d refl refl refl)
+daily_factor r d = r.scaled_millionths ∙ sym (over_right 1000000 r.period d refl)
 
 -- next to daily periods, where the figure is worked out
 pub neighbours : map (scaled 80000) (4 ∷ 6 ∷ 9 ∷ 11 ∷ 19 ∷ 21 ∷ 24 ∷ 269 ∷ []) ≡ 50597 ∷ 61968 ∷ 75895 ∷ 83905 ∷ 110273 ∷ 115932 ∷ 123936 ∷ 414922 ∷ []
@@ -111,10 +110,10 @@ unfolding is_stored
 stored_and_others = refl
 
 -- THE STARRED FIGURES of 80000, which is that of currencies, from its line; a haircut that no table has is without one, and is worked out
-pub lines : map stored_line (currency_haircut ∷ 5000 ∷ 0 ∷ 80001 ∷ 50000 ∷ 1000000 ∷ []) ≡ Figures 56569 80000 113138 ∷ Figures 3536 5000 7072 ∷ Figures 0 0 0 ∷ Nothing ∷ Nothing ∷ Nothing ∷ []
+pub lines : map stored_line (currency_haircut ∷ 5000 ∷ 0 ∷ 80001 ∷ 50000 ∷ 1000000 ∷ []) ≡ Some (56569 ∷ 80000 ∷ 113138 ∷ []) ∷ Some (3536 ∷ 5000 ∷ 7072 ∷ []) ∷ Some (0 ∷ 0 ∷ 0 ∷ []) ∷ None ∷ None ∷ None ∷ []
 unfolding stored_line is_stored scaled least between
 lines = refl
 
-pub over_each : map (λ n. figure_over n 56569 80000 113138) (5 ∷ 10 ∷ 20 ∷ []) ≡ 56569 ∷ 80000 ∷ 113138 ∷ []
+pub over_each : map (λ n. figure_over n (56569 ∷ 80000 ∷ 113138 ∷ [])) (5 ∷ 10 ∷ 20 ∷ []) ≡ 56569 ∷ 80000 ∷ 113138 ∷ []
 unfolding figure_over
 over_each = refl

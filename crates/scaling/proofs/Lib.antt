@@ -1,5 +1,6 @@
 pub mod Scaled
 pub mod Below
+pub mod Factors
 pub mod Periods
 pub mod StoredFigures
 pub mod DailyDeals

@@ -1,5 +1,6 @@
 -- The stored figures are those that scaling gives: what the test of the whole table, the contract of `stored_figures`, says of each line. Assumes
 -- nothing.
+use Rattle.std.specs.Prelude.{Option, Some, None}
 use Prim.Native.Nat.{ℕ, zero, suc, ◌*◌, ◌/◌, ◌≤◌, ◌<◌}
 use mathlib.Core.Logic.{◌⊎◌, inl, inr}
 use mathlib.Core.Path.{◌≡◌, refl}
@@ -11,13 +12,12 @@ use lib.Dec.{eqb, leb}
 use lib.ListN.{get_or, length}
 use borrow.Author.Tests.{eqb-true, lt-leb, ne_eqb}
 use Rattle.base.specs.All.{all_pass}
+use Rattle.base.specs.Least.{between, least}
 use Rattle.base.proofs.Choice.{either, never}
 use Rattle.base.proofs.Every.{both, every_at}
 use Rattle.base.proofs.Tests.{or_false}
 use Rattle.scaling.specs.Scaling.{scaled}
-use Rattle.scaling.specs.Stored.{among, figure_over, is_daily, is_stored, line_of, over_daily, stored_figures, stored_haircuts, stored_line}
-use Rattle.scaling.specs.declared.stored.Stored.{Stored}
-use Rattle.scaling.specs.declared.stored.Stored.TheVariants.{Figures, Nothing}
+use Rattle.scaling.specs.Stored.{among, figure_over, is_daily, is_stored, over_daily, stored_figures, stored_haircuts, stored_line}
 
 -- what the table has at a place is the line of the haircut at that place
 line_at : (Hs : List ℕ) (at : ℕ) (d : List ℕ) → at < length Hs → get_or (map over_daily Hs) at d ≡ over_daily (get_or Hs at 0)
@@ -31,27 +31,28 @@ unfolding is_stored
 stored_at = every_at 15 (λ at. is_stored (get_or stored_haircuts at 0)) refl
 
 -- THE LAW: a table that passed the test of `stored_figures` has at each place the line of the haircut there
-pub line_right : (H at : ℕ) (table : List (List ℕ)) (d : List ℕ) {line : Stored} → at < 15 → H ≡ get_or stored_haircuts at 0 → table ≡ stored_figures → line ≡ line_of (get_or table at d) → line ≡ stored_line H
+pub line_right : (H at : ℕ) (table : List (List ℕ)) (d : List ℕ) → at < 15 → H ≡ get_or stored_haircuts at 0 → table ≡ stored_figures → Some (get_or table at d) ≡ stored_line H
 unfolding stored_line
-line_right H at table d h e t l = rw (l, t, line_at stored_haircuts at d h, e, stored_at at h)
+line_right H at table d h e t = rw (t, line_at stored_haircuts at d h, e, stored_at at h)
 
 -- a haircut that is not stored has no line
-pub no_line : (H : ℕ) → is_stored H ≡ false → Nothing ≡ stored_line H
+pub no_line : (H : ℕ) → is_stored H ≡ false → None ≡ stored_line H
 unfolding stored_line
 no_line H e = rw e
 
 -- what a line that was found says of its haircut
-abbrev pub HasFigures : ℕ → Stored → Type 0
-HasFigures H (Figures five ten twenty) = (is_stored H ≡ true) × ((five ≡ scaled H 5) × ((ten ≡ scaled H 10) × (twenty ≡ scaled H 20)))
-HasFigures H Nothing = is_stored H ≡ false
+abbrev pub HasFigures : ℕ → Option (List ℕ) → Type 0
+HasFigures H (Some figures) = (is_stored H ≡ true) × (figures ≡ over_daily H)
+HasFigures H None = is_stored H ≡ false
 
-pub has_figures : (H : ℕ) {line : Stored} → line ≡ stored_line H → HasFigures H line
+pub has_figures : (H : ℕ) {line : Option (List ℕ)} → line ≡ stored_line H → HasFigures H line
 unfolding stored_line
-has_figures H e = rw e (either (HasFigures H) (is_stored H) (λ t. (t, (refl, (refl, refl)))) (λ f. f))
+has_figures H e = rw e (either (HasFigures H) (is_stored H) (λ t. (t, refl)) (λ f. f))
 
--- a haircut of so many percents
-pub percents : (H k : ℕ) → H ≤ H / 10000 * 10000 → H / 10000 ≡ k → H ≡ k * 10000
-percents H k h e = omega (arith, h, e)
+-- the same where the haircut is so many percents
+pub percents_right : (H k at : ℕ) (table : List (List ℕ)) → table ≡ stored_figures → H ≤ H / 10000 * 10000 → H / 10000 ≡ k → at < 15 → eqb (get_or stored_haircuts at 0) (k * 10000) ≡ true → Some (get_or table at []) ≡ stored_line H
+percents_right H k at table t h e l p =
+    line_right H at table [] l (let q = eqb-true _ _ p in omega (arith, h, e, q)) t
 
 -- WHAT IS NOT STORED: a haircut that fails a test which every stored one passes
 apart : (test : ℕ → Bool) (xs : List ℕ) (H : ℕ) → all_pass xs test ≡ true → test H ≡ false → among xs H ≡ false
@@ -96,14 +97,18 @@ daily_are n d = go (eqb n 5) (eqb n 10) refl refl
     go false false e f = inr (inr (eqb-true n 20 (rw (e, f) at d)))
 
 -- the figure over a daily period
-pub over_right : (H n : ℕ) {five ten twenty : ℕ} → is_daily n ≡ true → five ≡ scaled H 5 → ten ≡ scaled H 10 → twenty ≡ scaled H 20 → figure_over n five ten twenty ≡ scaled H n
+pub over_right : (H n : ℕ) {figures : List ℕ} → is_daily n ≡ true → figures ≡ over_daily H → figure_over n figures ≡ scaled H n
 unfolding figure_over is_daily
-over_right H n {five} {ten} {twenty} d a b c =
-    either (λ r. r ≡ scaled H n) (eqb n 5) (λ e. rw (eqb-true n 5 e) a)
-    (λ e. either (λ r. r ≡ scaled H n) (eqb n 10) (λ f. rw (eqb-true n 10 f) b) (λ f. rw (eqb-true n 20 (rw (e, f) at d)) c))
+over_right H n {figures} d e =
+    rw e
+    (either (λ r. r ≡ scaled H n) (eqb n 5) (λ e. rw (eqb-true n 5 e) refl)
+    (λ e. either (λ r. r ≡ scaled H n) (eqb n 10) (λ f. rw (eqb-true n 10 f) refl) (λ f. rw (eqb-true n 20 (rw (e, f) at d)) refl)))
 
 -- so the figure that is taken is the one that scaling gives
-pub taken : (H n : ℕ) {five ten twenty : ℕ} → is_daily n ≡ true → Figures five ten twenty ≡ stored_line H → figure_over n five ten twenty ≡ scaled H n
-taken H n d e =
-    let h = has_figures H e in
-    over_right H n d h.1.0 h.1.1.0 h.1.1.1
+pub taken : (H n : ℕ) {figures : List ℕ} → is_daily n ≡ true → Some figures ≡ stored_line H → figure_over n figures ≡ scaled H n
+taken H n d e = over_right H n d (has_figures H e).1
+
+-- of the whole, too
+pub whole_right : (n : ℕ) → is_daily n ≡ true → figure_over n (707107 ∷ 1000000 ∷ 1414214 ∷ []) ≡ scaled 1000000 n
+unfolding scaled least between
+whole_right n d = over_right 1000000 n d refl

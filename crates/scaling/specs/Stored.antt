@@ -1,8 +1,6 @@
 -- The figures that are stored and not worked out. 02: L4
-use Rattle.std.specs.Prelude.{ℕ, Bool, false, ◌||◌, List, [], ◌∷◌, map, eqb, get_or, if◌then◌else◌}
+use Rattle.std.specs.Prelude.{ℕ, Bool, false, ◌||◌, List, [], ◌∷◌, map, eqb, get_or, Option, Some, None, if◌then◌else◌}
 use Rattle.scaling.specs.Scaling.{scaled}
-use Rattle.scaling.specs.declared.stored.Stored.{Stored}
-use Rattle.scaling.specs.declared.stored.Stored.TheVariants.{Figures, Nothing}
 
 -- "so n is 5, 10 or 20": the periods of a deal that is revalued daily. Others have them too (a repo-style deal every 6 or 16 days, another capital
 -- market one and any deal's guarantees every 11), and take the same figures
@@ -30,13 +28,10 @@ over_daily H = scaled H 5 ∷ scaled H 10 ∷ scaled H 20 ∷ []
 abbrev pub stored_figures : List (List ℕ)
 stored_figures = map over_daily stored_haircuts
 
-abbrev pub line_of : List ℕ → Stored
-line_of figures = Figures (get_or figures 0 0) (get_or figures 1 0) (get_or figures 2 0)
-
 -- the line of a haircut; one that no table has is without
-unfoldable pub stored_line : ℕ → Stored
-stored_line H = if is_stored H then line_of (over_daily H) else Nothing
+unfoldable pub stored_line : ℕ → Option (List ℕ)
+stored_line H = if is_stored H then Some (over_daily H) else None
 
 -- of a line, the figure over a daily period n: over 20 days where n is neither 5 nor 10
-unfoldable pub figure_over : ℕ → ℕ → ℕ → ℕ → ℕ
-figure_over n five ten twenty = if eqb n 5 then five else if eqb n 10 then ten else twenty
+unfoldable pub figure_over : ℕ → List ℕ → ℕ
+figure_over n figures = if eqb n 5 then get_or figures 0 0 else if eqb n 10 then get_or figures 1 0 else get_or figures 2 0

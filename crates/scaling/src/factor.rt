@@ -1,39 +1,42 @@
 // Haircuts scaled to one holding period. For the periods of daily revaluation they are stored. For any other the whole is scaled once, by
 // bisection; it tells within a unit or two where any other scaled haircut lies.
 ghost use Rattle.std.specs.Prelude.{false, ◌&&◌, ◌≡◌, ◌≤◌};
-ghost use Rattle.scaling.specs.TimeFactor.{IsTimeFactor};
 ghost use Rattle.scaling.specs.Scaling.{scaled};
 ghost use Rattle.scaling.specs.Stored.{is_daily, is_stored};
 
 use crate::scaling::scaled_haircut;
-use crate::stored::{Stored, is_daily, over, stored_line, stored_whole};
+use crate::stored::{is_daily, over, stored_line, stored_whole};
 
 const WHOLE: u64 = 1_000_000;
 
+// The square-root-of-time factor of a holding period.
 #[derive(Clone, Copy)]
 pub struct TimeFactor {
     pub period: u64,
-    // The square-root-of-time factor: the whole scaled to the period, the square root of period / 10 in millionths, rounded up.
+    // The whole scaled to the period, the square root of period / 10 in millionths, rounded up.
     pub millionths: u64,
+    // There is room for periods up to 1,000, and none is above 269.
+    pub ghost short: { period ≤ 1000 },
+    pub ghost scaled_millionths: { millionths ≡ scaled 1000000 period },
 }
 
 impl TimeFactor {
     pub fn of_period(period: u64) -> TimeFactor
         requires { period ≤ 1000 }
-        ensures { (result.period ≡ period) × IsTimeFactor result }
+        ensures { result.period ≡ period }
     {
-        if is_daily(period) {
-            let millionths = stored_whole(period);
-            return TimeFactor { period, millionths };
-        }
-        let millionths = scaled_haircut(WHOLE, period);
+        let millionths = if is_daily(period) {
+            stored_whole(period)
+        } else {
+            scaled_haircut(WHOLE, period)
+        };
         TimeFactor { period, millionths }
     }
 
     // The factor of a period, which may be the one at hand.
     pub fn for_period(self, period: u64) -> TimeFactor
-        requires { (period ≤ 1000) × IsTimeFactor self }
-        ensures { (result.period ≡ period) × IsTimeFactor result }
+        requires { period ≤ 1000 }
+        ensures { result.period ≡ period }
     {
         if self.period == period {
             return self;
@@ -42,14 +45,14 @@ impl TimeFactor {
     }
 
     // A haircut scaled to the period.
+    #[tactic(auto, using(crate::proofs::StoredFigures::taken))]
     pub fn scale(self, haircut: u64) -> u64
-        requires { (haircut ≤ 1000000) × IsTimeFactor self }
+        requires { haircut ≤ 1000000 }
         ensures { result ≡ scaled haircut self.period }
     {
         if is_daily(self.period) {
-            let stored = stored_line(haircut);
-            if let Stored::Figures(five, ten, twenty) = stored {
-                return over(self.period, five, ten, twenty);
+            if let Some(figures) = stored_line(haircut) {
+                return over(self.period, figures);
             }
         }
         self.work_out(haircut)
@@ -57,7 +60,8 @@ impl TimeFactor {
 
     // What is stored is not worked out.
     fn work_out(self, haircut: u64) -> u64
-        requires { (haircut ≤ 1000000) × (IsTimeFactor self × ((is_daily self.period && is_stored haircut) ≡ false)) }
+        requires small { haircut ≤ 1000000 }
+        requires not_stored { (is_daily self.period && is_stored haircut) ≡ false }
         ensures { result ≡ scaled haircut self.period }
     {
         let target = haircut * haircut * self.period;

@@ -5,19 +5,19 @@ ghost use Rattle.scaling.specs.Period.{minimum_period, holding_period, guarantee
 use tables::kinds::{OTHER_CAPITAL_MARKET, REPO_STYLE};
 
 // The minimum holding period of a kind of transaction: the last is that of secured lending.
+#[tactic(auto, unfolding(crate::specs::Period::minimum_period))]
 fn minimum_period(kind: u64) -> u64
     ensures { (result ≡ minimum_period kind) × (result ≤ 20) }
 {
-    if kind == REPO_STYLE {
-        return 5;
+    match kind {
+        REPO_STYLE => 5,
+        OTHER_CAPITAL_MARKET => 10,
+        _ => 20,
     }
-    if kind == OTHER_CAPITAL_MARKET {
-        return 10;
-    }
-    20
 }
 
 // The holding period of collateral and of goods lent.
+#[tactic(auto, unfolding(crate::specs::Period::holding_period))]
 pub fn holding_period(kind: u64, interval: u64) -> u64
     requires { (1 ≤ interval) × (interval ≤ 250) }
     ensures { result ≡ holding_period kind interval }
@@ -26,6 +26,7 @@ pub fn holding_period(kind: u64, interval: u64) -> u64
 }
 
 // The holding period of a guarantee's currency haircut, the same for every kind.
+#[tactic(auto, unfolding(crate::specs::Period::guarantee_period))]
 pub fn guarantee_period(interval: u64) -> u64
     requires { interval ≤ 250 }
     ensures { result ≡ guarantee_period interval }

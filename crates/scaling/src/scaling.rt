@@ -9,8 +9,11 @@ const ABOVE_ALL: u64 = 16_777_216;
 // The least h with 10 * h * h at or above haircut * haircut * period, by bisection: low is too small for it, and
 // low + width is not. Rounding up keeps the relief from being too large. No root is taken for a period of daily revaluation.
 pub fn scaled_haircut(haircut: u64, period: u64) -> u64
-    requires { (haircut ≤ 1000000) × ((period ≤ 1000) × (is_daily period ≡ false)) }
-    ensures { (result ≡ scaled haircut period) × IsScaled haircut period result }
+    requires haircut_bound { haircut ≤ 1000000 }
+    requires period_bound { period ≤ 1000 }
+    requires not_daily { is_daily period ≡ false }
+    ensures value { result ≡ scaled haircut period }
+    ensures least { IsScaled haircut period result }
 {
     let target = haircut * haircut * period;
     if target == 0 {

@@ -1,7 +1,7 @@
 // Table haircuts scaled to the holding periods of deals that are revalued daily, stored and not worked out (02: L4).
 ghost use Rattle.std.specs.Prelude.{true, ◌≡◌};
 ghost use Rattle.scaling.specs.Scaling.{scaled};
-ghost use Rattle.scaling.specs.Stored.{figure_over, is_daily, stored_figures, stored_line, line_of};
+ghost use Rattle.scaling.specs.Stored.{figure_over, is_daily, stored_figures, stored_line};
 
 const PERCENT: u64 = 10_000;
 
@@ -26,89 +26,75 @@ const FIGURES: [[u64; 3]; 15] = [
     [212_133, 300_000, 424_265],
 ];
 
-// A line of the table: a haircut over 5, over 10 and over 20 business days. Only table haircuts have one.
-#[derive(Clone, Copy)]
-pub enum Stored {
-    Figures(u64, u64, u64),
-    Nothing,
-}
-
 // Whether a period is one of daily revaluation.
+#[tactic(auto, unfolding(crate::specs::Stored::is_daily))]
 pub fn is_daily(period: u64) -> bool
     ensures { result ≡ is_daily period }
 {
-    if period == 5 {
-        return true;
-    }
-    if period == 10 {
-        return true;
-    }
-    period == 20
+    matches!(period, 5 | 10 | 20)
 }
 
 // The whole table, which is what scaling gives: one test, which the checker computes.
+#[tactic(auto, unfolding(crate::specs::Scaling::scaled, base::specs::Least::least, base::specs::Least::between))]
 fn stored_figures() -> [[u64; 3]; 15]
     ensures { result ≡ stored_figures }
 {
     FIGURES
 }
 
-fn line(figures: [u64; 3]) -> Stored
-    ensures { result ≡ line_of figures }
-{
-    Stored::Figures(figures[0], figures[1], figures[2])
-}
-
-// The line of a haircut. Whole percents lie close, so that a line is found without a comparison for each. Every place is written out, since the
-// compiler then keeps the lines in read-only memory; an array that is read at a place found by computing it writes out anew at each read.
-pub fn stored_line(haircut: u64) -> Stored
+// The line of a haircut: its figures over 5, over 10 and over 20 business days. Only table haircuts have one. Whole percents lie close, so that a
+// line is found without a comparison for each. By a match with every place written out: the compiler then keeps the lines in read-only memory; an
+// array that is read at a place found by computing it writes out anew at each read.
+#[tactic(auto, using(crate::proofs::StoredFigures::percents_right))]
+pub fn stored_line(haircut: u64) -> Option<[u64; 3]>
     ensures { result ≡ stored_line haircut }
 {
     let table = stored_figures();
     let percents = haircut / PERCENT;
     if percents * PERCENT < haircut {
         if haircut == HALF_PERCENT {
-            return line(table[1]);
+            return Some(table[1]);
         }
-        return Stored::Nothing;
+        return None;
     }
     match percents {
-        0 => line(table[0]),
-        1 => line(table[2]),
-        2 => line(table[3]),
-        3 => line(table[4]),
-        4 => line(table[5]),
-        6 => line(table[6]),
-        8 => line(table[7]),
-        12 => line(table[8]),
-        15 => line(table[9]),
-        16 => line(table[10]),
-        20 => line(table[11]),
-        24 => line(table[12]),
-        25 => line(table[13]),
-        30 => line(table[14]),
-        _ => Stored::Nothing,
+        0 => Some(table[0]),
+        1 => Some(table[2]),
+        2 => Some(table[3]),
+        3 => Some(table[4]),
+        4 => Some(table[5]),
+        6 => Some(table[6]),
+        8 => Some(table[7]),
+        12 => Some(table[8]),
+        15 => Some(table[9]),
+        16 => Some(table[10]),
+        20 => Some(table[11]),
+        24 => Some(table[12]),
+        25 => Some(table[13]),
+        30 => Some(table[14]),
+        _ => None,
     }
 }
 
-// The figure over a daily period, of those over 5, 10 and 20 business days.
-pub fn over(period: u64, five: u64, ten: u64, twenty: u64) -> u64
+// The figure over a daily period, of a line.
+#[tactic(auto, unfolding(crate::specs::Stored::figure_over))]
+pub fn over(period: u64, figures: [u64; 3]) -> u64
     requires { is_daily period ≡ true }
-    ensures { result ≡ figure_over period five ten twenty }
+    ensures { result ≡ figure_over period figures }
 {
-    if period == 5 {
-        return five;
+    let [five, ten, twenty] = figures;
+    match period {
+        5 => five,
+        10 => ten,
+        _ => twenty,
     }
-    if period == 10 {
-        return ten;
-    }
-    twenty
 }
 
 // The time factor of the period: the whole, scaled.
+#[tactic(auto, using(crate::proofs::StoredFigures::whole_right))]
 pub fn stored_whole(period: u64) -> u64
     requires { is_daily period ≡ true }
     ensures { result ≡ scaled 1000000 period }
 {
-    over(period, 707_107, 1_000_000, 1_414_214)
+    over(period, [707_107, 1_000_000, 1_414_214])
 }
