@@ -3,10 +3,9 @@ ghost use Rattle.std.specs.Prelude.{◌≡◌, ◌≤◌, ℕ};
 ghost use Rattle.netting.specs.Exposure.{currency_add_on, currency_figure, security_add_on, security_figure};
 ghost use Rattle.netting.specs.Haircuts.{currency_haircut_over, security_haircut};
 ghost use Rattle.netting.specs.Once.{sum_once};
-ghost use Rattle.netting.specs.declared.position.Position.{Position};
 
+use crate::accepted::AcceptedSet;
 use crate::group::Group;
-use crate::haircuts::AcceptedSet;
 use crate::nets::net;
 use crate::position::Position;
 use signed::absolute;

@@ -3,6 +3,7 @@
 
 #![tactic(auto)]
 
+mod accepted;
 mod add_ons;
 mod agreement;
 mod amounts;
@@ -12,6 +13,6 @@ mod group;
 mod haircuts;
 mod nets;
 pub mod position;
-mod refusal;
+pub mod refusal;
 pub mod set;
 pub mod terms;

@@ -8,8 +8,4 @@ pub of_period-requires : goal.of_period-requires
 of_period-requires c = omega (arith, c.holding_period.ensures, period_bound repo_style c.args.terms.interval)
 
 pub returns : goal.returns
-returns c =
-    record {
-      period_is = c.of_period.ensures.0 ∙ c.holding_period.ensures ∙ repo_period c.args.terms;
-      factor_is = c.of_period.ensures.1;
-    }
+returns c = c.of_period.ensures ∙ c.holding_period.ensures ∙ repo_period c.args.terms
