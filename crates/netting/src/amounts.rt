@@ -21,7 +21,7 @@ fn received_not_eligible(position: &Position) -> bool
 pub fn any_not_eligible(positions: &[Position]) -> bool
     ensures { result ≡ any positions.now received_not_eligible }
 {
-    positions.iter().any(|p| received_not_eligible(p))
+    positions.iter().any(received_not_eligible)
 }
 
 // The sum of all amounts.

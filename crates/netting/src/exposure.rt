@@ -6,7 +6,6 @@ ghost use Rattle.netting.specs.Reply.{set_weight};
 use crate::accepted::AcceptedSet;
 use crate::group::Group;
 use crate::nets::{lent_total, net};
-use base::smaller;
 use signed::rounded_up;
 use tables::editions::counterparty_weight_under;
 
@@ -27,7 +26,7 @@ impl AcceptedSet<'_> {
         if rounded < 0 {
             return 0;
         }
-        smaller(lent_total(self.positions), rounded as u64)
+        lent_total(self.positions).min(rounded as u64)
     }
 
     // The counterparty's weight, under the set's own tables.

@@ -53,5 +53,5 @@ pub fn lent_total(positions: &[Position]) -> u64
     requires { sum_of amount_of positions.now ≤ 1000000000000 }
     ensures { result ≡ sum_of lent positions.now }
 {
-    positions.iter().map(|p| lent(p)).sum()
+    positions.iter().map(lent).sum()
 }

@@ -4,7 +4,6 @@ ghost use Rattle.deal.specs.Answers.{answer_number};
 ghost use Rattle.netting.specs.Positions.{position_refusal, security_allowed, side_known};
 
 use crate::set::NettingSet;
-use base::within;
 use deal::asset::Asset;
 use deal::checks::FieldChecks;
 use deal::ranges::{amount_allowed, currency_allowed};
@@ -39,14 +38,15 @@ impl Position {
         currency: 0,
     };
 
+    #[tactic(auto, unfolding(base::specs::Range::within))]
     fn side_known(self) -> bool
         ensures { result ≡ side_known self }
     {
-        within(LENT, RECEIVED, self.side)
+        (LENT..=RECEIVED).contains(&self.side)
     }
 
     // Cash is no security, and nothing else goes without a number.
-    #[tactic(auto, unfolding(crate::specs::Positions::security_allowed))]
+    #[tactic(auto, unfolding(crate::specs::Positions::security_allowed, base::specs::Range::within))]
     fn security_allowed(self) -> bool
         ensures { result ≡ security_allowed self }
     {
@@ -54,7 +54,7 @@ impl Position {
         if asset.goods == CASH {
             self.security == 0
         } else {
-            within(1, NettingSet::SECURITY_LIMIT, self.security)
+            (1..=NettingSet::SECURITY_LIMIT).contains(&self.security)
         }
     }
 

@@ -4,7 +4,6 @@ ghost use Rattle.deal.specs.Answers.{answer_number};
 ghost use Rattle.netting.specs.Terms.{set_interval_allowed, set_terms_refusal, table_known};
 
 use crate::set::NettingSet;
-use base::within;
 use deal::checks::FieldChecks;
 use deal::party::Party;
 use deal::ranges::currency_allowed;
@@ -25,16 +24,18 @@ pub struct SetTerms {
     pub interval: u64,
 }
 
+#[tactic(auto, unfolding(base::specs::Range::within))]
 fn table_known(table: u64) -> bool
     ensures { result ≡ table_known table }
 {
-    within(FIRST_TABLE, LAST_TABLE, table)
+    (FIRST_TABLE..=LAST_TABLE).contains(&table)
 }
 
+#[tactic(auto, unfolding(base::specs::Range::within))]
 fn interval_allowed(interval: u64) -> bool
     ensures { result ≡ set_interval_allowed interval }
 {
-    within(1, NettingSet::INTERVAL_LIMIT, interval)
+    (1..=NettingSet::INTERVAL_LIMIT).contains(&interval)
 }
 
 impl SetTerms {

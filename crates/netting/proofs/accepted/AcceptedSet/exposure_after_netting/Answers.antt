@@ -27,6 +27,6 @@ returns c =
     let f : Fitting c.args.self.now.terms c.args.self.now.positions.now = search rules in
     let b = back _ (record { sfits = c.exposure.type_inv }) ∙ c.exposure.ensures in
     let r = back _ (record { sfits = c.rounded_up-rounded.type_inv }) ∙ c.rounded_up-rounded.ensures ∙ ap (λ z. ceiling z 1000000) b in (
-      c.smaller.ensures ∙ ap₂ min c.lent_total.ensures (above_zero (to_z w64 (of_z w64 c.rounded_up-rounded.result)) c.if-rounded-lt0.false ∙ ap at_least_zero r),
-      omega (arith, c.smaller.ensures, c.lent_total.ensures, both_sides c.args.self.now.positions.now, f.amounts),
+      c.min.ensures ∙ ap₂ min c.lent_total.ensures (above_zero (to_z w64 (of_z w64 c.rounded_up-rounded.result)) c.if-rounded-lt0.false ∙ ap at_least_zero r),
+      omega (arith, c.min.ensures, c.lent_total.ensures, both_sides c.args.self.now.positions.now, f.amounts),
     )
