@@ -27,7 +27,7 @@ use Rattle.netting.specs.Refusals.{set_refusal}
 use Rattle.netting.specs.Reply.{set_reply}
 use Rattle.netting.specs.Terms.{set_terms_refusal}
 use Rattle.netting.specs.declared.position.Position.{Position}
-use Rattle.netting.specs.declared.set.NettingReply.{NettingReply}
+use Rattle.netting.specs.Reply.{NettingReply}
 use Rattle.netting.specs.declared.set.NettingSet.{NettingSet}
 use Rattle.netting.specs.declared.terms.SetTerms.{SetTerms}
 use Rattle.netting_laws.specs.Betterments.{BetterSet, SetBetterments, SetNeverRaised, SetView, accepted_set, accepted_set_view, lent_alone, set_view_of, set_with}

@@ -7,7 +7,7 @@ use crate::ranges::{days_allowed, step_allowed};
 use base::within;
 use tables::goods::{CASH, GOLD, RESECURITISATION, SOVEREIGN_DEBT};
 
-#[derive(Clone, Copy)]
+#[derive(Clone, Copy, Debug, PartialEq, Eq)]
 pub struct Asset {
     // The type of goods, 1 to 9.
     pub goods: u64,

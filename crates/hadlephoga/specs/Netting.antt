@@ -4,7 +4,7 @@ use Rattle.std.specs.Prelude.{ℕ, ◌+◌, ◌*◌, ◌-◌, ◌/◌, Bool, Lis
 use Rattle.netting.specs.Fields.{position_in, position_width, set_terms_in, set_terms_width}
 use Rattle.netting.specs.Reply.{refused_reply, reply_to}
 use Rattle.netting.specs.declared.position.Position.{Position}
-use Rattle.netting.specs.declared.set.NettingReply.{NettingReply}
+use Rattle.netting.specs.Reply.{NettingReply}
 use Rattle.hadlephoga.specs.Records.{slices}
 
 -- the set's own fields, and behind them the numbers of its positions, one behind the other: how many positions there are

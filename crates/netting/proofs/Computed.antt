@@ -26,7 +26,7 @@ use Rattle.netting.specs.Refusals.{disagree, received_not_eligible, set_refusal,
 use Rattle.netting.specs.Reply.{reply_to, set_weight, weighted_amount}
 use Rattle.netting.specs.Terms.{set_terms_tests}
 use Rattle.netting.specs.declared.position.Position.{Position}
-use Rattle.netting.specs.declared.set.NettingReply.{NettingReply}
+use Rattle.netting.specs.Reply.{NettingReply}
 use Rattle.netting.specs.declared.terms.SetTerms.{SetTerms}
 
 unfoldable pub computed : SetTerms → ℕ → List Position → NettingReply

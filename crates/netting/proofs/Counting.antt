@@ -1,12 +1,12 @@
 -- The laws of sums that count each number once. Assumes nothing.
 use Rattle.std.proofs.Common.{if◌then◌else◌}
-use Prim.Native.Nat.{ℕ, ◌+◌, ◌*◌, ◌≤◌, ◌<◌}
+use Prim.Native.Nat.{ℕ, ◌+◌, ◌*◌, ◌≤◌}
 use mathlib.Core.Path.{◌≡◌, refl, ap, ◌∙◌}
 use mathlib.Core.Bool.{Bool, true, false, ◌||◌}
 use mathlib.Core.List.{List, [], ◌∷◌}
 use native.Mathlib.Omega.{arith}
 use lib.Dec.{eqb}
-use lib.ListN.{length, take, drop, get_or}
+use lib.ListN.{length}
 use borrow.Author.Tests.{eqb-true, eq-eqb}
 use Rattle.base.specs.Sum.{sum_of}
 use Rattle.base.proofs.Compare.{eqb_turned}
@@ -17,7 +17,6 @@ use Rattle.base.specs.Each.{Each}
 use Rattle.base.specs.Any.{any}
 use Rattle.netting.specs.Once.{occurs, sum_once}
 use Rattle.netting.proofs.Sides.{only_in, only_out}
-use Rattle.base.proofs.Rest.{rest_next, rest_none}
 
 by_test : {t u : Bool} → t ≡ u → (a : ℕ) → (if t then a else 0) ≡ (if u then a else 0)
 by_test e a = rw e
@@ -36,38 +35,20 @@ module _ {A : Type 0} (number : A → ℕ) where
   abbrev pub at : ℕ → A → Bool
   at k x = eqb (number x) k
 
-  -- for loops: the rest from the ith on
-  once_later : (f : A → ℕ) (xs : List A) (n i : ℕ) (d : A) → i < n → i < length xs → occurs number (number (get_or xs i d)) (drop (i + 1) (take n xs)) ≡ true →
-      sum_once number f (drop i (take n xs)) ≡ sum_once number f (drop (i + 1) (take n xs))
+  -- the first of some, where a later one has its number, and where none has
+  module _ (f : A → ℕ) (xs : List A) (x : A) (rest : List A) (e : xs ≡ x ∷ rest) where
+    pub once_later : occurs number (number x) rest ≡ true → sum_once number f xs ≡ sum_once number f rest
+    unfolding sum_once
+    once_later t = ap (sum_once number f) e ∙ omega (arith, if_true (occurs number (number x) rest) 0 (f x) t)
+
+    pub once_here : occurs number (number x) rest ≡ false → sum_once number f xs ≡ f x + sum_once number f rest
+    unfolding sum_once
+    once_here t = ap (sum_once number f) e ∙ omega (arith, if_false (occurs number (number x) rest) 0 (f x) t)
+
+  pub once_end : (f : A → ℕ) (xs : List A) → length xs ≡ 0 → sum_once number f xs ≡ 0
   unfolding sum_once
-  once_later f xs n i d h k e =
-      ap (sum_once number f) (rest_next xs n i d h k)
-      ∙ omega (arith, if_true (occurs number (number (get_or xs i d)) (drop (i + 1) (take n xs))) 0 (f (get_or xs i d)) e)
-
-  once_here : (f : A → ℕ) (xs : List A) (n i : ℕ) (d : A) → i < n → i < length xs → occurs number (number (get_or xs i d)) (drop (i + 1) (take n xs)) ≡ false →
-      sum_once number f (drop i (take n xs)) ≡ f (get_or xs i d) + sum_once number f (drop (i + 1) (take n xs))
-  unfolding sum_once
-  once_here f xs n i d h k e =
-      ap (sum_once number f) (rest_next xs n i d h k)
-      ∙ omega (arith, if_false (occurs number (number (get_or xs i d)) (drop (i + 1) (take n xs))) 0 (f (get_or xs i d)) e)
-
-  once_end : (f : A → ℕ) (xs : List A) (n i : ℕ) → n ≤ i → sum_once number f (drop i (take n xs)) ≡ 0
-  unfolding sum_once
-  once_end f xs n i h = ap (sum_once number f) (rest_none xs n i h)
-
-  -- a loop that has summed up to the ith of n: what is left is the sum of the rest
-  abbrev pub Counting : (A → ℕ) → List A → ℕ → ℕ → ℕ → Type 0
-  Counting f xs n sum i = sum + sum_once number f (drop i (take n xs)) ≡ sum_once number f (take n xs)
-
-  module _ (f : A → ℕ) (xs : List A) (n sum i : ℕ) (d : A) where
-    pub counting_later : i < n → i < length xs → Counting f xs n sum i → occurs number (number (get_or xs i d)) (drop (i + 1) (take n xs)) ≡ true → Counting f xs n sum (i + 1)
-    counting_later h k c e = omega (arith, c, once_later f xs n i d h k e)
-
-    pub counting_here : i < n → i < length xs → Counting f xs n sum i → occurs number (number (get_or xs i d)) (drop (i + 1) (take n xs)) ≡ false → Counting f xs n (sum + f (get_or xs i d)) (i + 1)
-    counting_here h k c e = omega (arith, c, once_here f xs n i d h k e)
-
-    pub counting_end : n ≤ i → Counting f xs n sum i → sum ≡ sum_once number f (take n xs)
-    counting_end h c = omega (arith, c, once_end f xs n i h)
+  once_end f [] e = refl
+  once_end f (x ∷ xs) e = absurd (omega arith)
 
   -- larger figures
   pub once_mono : (f g : A → ℕ) (xs : List A) → Each (λ x. f x ≤ g x) xs → sum_once number f xs ≤ sum_once number g xs

@@ -1,30 +1,27 @@
 -- The laws of absolute nets times haircuts: by cases, and how large they can be. Assumes nothing.
 use Prim.Native.Nat.{ℕ, ◌*◌, ◌≤◌}
-use mathlib.Core.Path.{◌≡◌, refl, sym, ◌∙◌}
+use mathlib.Core.Path.{◌≡◌}
 use mathlib.Core.List.{List}
 use native.Mathlib.Nat.{mul-le-mul}
 use native.Mathlib.Omega.{arith}
 use lib.Dec.{eqb}
 use lib.IntN.{nat_abs}
 use borrow.Author.Tests.{eq-eqb, ne_eqb}
-use Rattle.base.specs.Any.{any}
 use Rattle.base.specs.Sum.{sum_of}
 use Rattle.base.proofs.Choice.{if_true, if_false, either}
 use Rattle.netting.specs.Groups.{member}
 use Rattle.netting.specs.Nets.{net, only}
-use Rattle.netting.specs.Once.{occurs, sum_once}
-use Rattle.netting.specs.AddOns.{add_on_of, figure_of, group_of, number_of}
+use Rattle.netting.specs.Once.{sum_once}
 use Rattle.netting.specs.Exposure.{security_of, currency_of, security_figure, security_add_on, currency_figure, currency_add_on}
-use Rattle.netting.specs.Haircuts.{currency_haircut_over, security_haircut}
+use Rattle.netting.specs.Haircuts.{security_haircut}
 use Rattle.netting.specs.Limits.{Fitting}
 use Rattle.netting.specs.Positions.{amount_of}
 use Rattle.netting.specs.declared.terms.SetTerms.{SetTerms}
-use Rattle.netting.specs.declared.add_ons.Netted.{Netted}
 use Rattle.netting.specs.declared.group.Group.{Group}
 use Rattle.netting.specs.declared.position.Position.{Position}
 use Rattle.base.specs.Each.{Each}
 use Rattle.base.proofs.EachElement.{each_of}
-use Rattle.netting.proofs.HaircutBounds.{currency_low, security_low}
+use Rattle.netting.proofs.HaircutBounds.{security_low}
 use Rattle.netting.proofs.NetSums.{net_abs_le}
 use Rattle.netting.proofs.Counting.{at, once_mono, once_times, once_whole}
 
@@ -83,22 +80,3 @@ module _ {t : SetTerms} {ps : List Position} (fitting : Fitting t ps) where
 
   pub currency_small : (fx : ℕ) → fx ≤ 1000000 → currency_add_on t.settlement fx ps ≤ 1000000000000000000
   currency_small fx h = omega (arith, currency_bound t.settlement fx ps h, fitting.amounts)
-
--- both kinds alike
-add_on_sum : (netted : Netted) (t : SetTerms) (ps : List Position) → add_on_of netted t ps ≡ sum_once (number_of netted) (figure_of netted t ps) ps
-unfolding security_add_on currency_add_on
-add_on_sum Netted.Securities t ps = refl
-add_on_sum Netted.Currencies t ps = refl
-
-pub add_on_is : (netted : Netted) (t : SetTerms) (ps : List Position) (sum : ℕ) → sum ≡ sum_once (number_of netted) (figure_of netted t ps) ps → sum ≡ add_on_of netted t ps
-add_on_is netted t ps sum e = e ∙ sym (add_on_sum netted t ps)
-
-pub sum_small : (netted : Netted) {t : SetTerms} {ps : List Position} → Fitting t ps → sum_once (number_of netted) (figure_of netted t ps) ps ≤ 1000000000000000000
-unfolding security_add_on currency_add_on
-sum_small Netted.Securities f = security_small f
-sum_small Netted.Currencies {t} f = currency_small f (currency_haircut_over t) (currency_low t f.few_days)
-
--- whether a position of the same group stands among these
-pub group_occurs : (netted : Netted) (p : Position) (xs : List Position) → any xs (member (group_of netted p)) ≡ occurs (number_of netted) (number_of netted p) xs
-group_occurs Netted.Securities p xs = refl
-group_occurs Netted.Currencies p xs = refl

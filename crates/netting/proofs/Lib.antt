@@ -3,6 +3,8 @@ pub mod Examples
 pub mod Sides
 pub mod NetSums
 pub mod HaircutBounds
+pub mod Answered
+pub mod Chains
 pub mod Counting
 pub mod Figures
 pub mod Exposures

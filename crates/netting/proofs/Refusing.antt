@@ -4,7 +4,9 @@ use mathlib.Core.Path.{◌≡◌, refl, ap, ◌∙◌}
 use mathlib.Core.Bool.{true, false}
 use mathlib.Core.List.{List, [], ◌∷◌, ◌++◌}
 use lib.Dec.{eqb, ltb}
-use lib.ListN.{length, take, drop, get_or}
+use native.Mathlib.Numerals.{add-one}
+use lib.ListN.{length, drop, get_or, drop_of_length-le}
+use lib.Seq.{drop-cons}
 use borrow.Author.Tests.{leb-true, le-ltb, lt-ltb, ltb-false, not-false as held}
 use Rattle.base.specs.Any.{any, any_two}
 use Rattle.base.specs.Each.{Each}
@@ -14,7 +16,6 @@ use Rattle.base.proofs.EachElement.{each_then}
 use Rattle.base.proofs.Every.{both}
 use Rattle.base.proofs.FirstMet.{append_met, append_none, met_first, none_append, none_met, none_of, nonzero, nonzero_append, not_met}
 use Rattle.base.proofs.Range.{bounds}
-use Rattle.base.proofs.Rest.{rest_next, rest_none}
 use Rattle.deal.specs.Assets.{goods_known}
 use Rattle.deal.specs.Parties.{counterparty_known}
 use Rattle.deal.proofs.Plain.{Between, asset_step, party_steps}
@@ -45,16 +46,19 @@ fields_nonzero [] = refl
 fields_nonzero (p ∷ ps) = nonzero_append (position_tests p) (fields_of_each ps) (position_nonzero p) (fields_nonzero ps)
 
 -- a loop that has passed those before the ith
-module _ (xs : List Position) (n i : ℕ) (d : Position) (h : i < n) (k : i < length xs) where
-  pub fields_here : eqb (position_refusal (get_or xs i d)) 0 ≡ false → first_met (fields_of_each (drop i (take n xs))) ≡ position_refusal (get_or xs i d)
-  fields_here e = ap (λ ps. first_met (fields_of_each ps)) (rest_next xs n i d h k) ∙ fields_met (get_or xs i d) _ e
+module _ (xs : List Position) (i : ℕ) (d : Position) (h : i < length xs) where
+  next : drop i xs ≡ get_or xs i d ∷ drop (i + 1) xs
+  next = rw (add-one i) (drop-cons xs i d h)
 
-  pub fields_later : position_refusal (get_or xs i d) ≡ 0 → first_met (fields_of_each (drop i (take n xs))) ≡ first_met (fields_of_each (drop (i + 1) (take n xs)))
-  fields_later e = ap (λ ps. first_met (fields_of_each ps)) (rest_next xs n i d h k) ∙ fields_none (get_or xs i d) _ e
+  pub fields_here : eqb (position_refusal (get_or xs i d)) 0 ≡ false → first_met (fields_of_each (drop i xs)) ≡ position_refusal (get_or xs i d)
+  fields_here e = ap (λ ps. first_met (fields_of_each ps)) next ∙ fields_met (get_or xs i d) _ e
 
-pub fields_end : (xs : List Position) (n i : ℕ) → n ≤ i → first_met (fields_of_each (drop i (take n xs))) ≡ 0
+  pub fields_later : position_refusal (get_or xs i d) ≡ 0 → first_met (fields_of_each (drop i xs)) ≡ first_met (fields_of_each (drop (i + 1) xs))
+  fields_later e = ap (λ ps. first_met (fields_of_each ps)) next ∙ fields_none (get_or xs i d) _ e
+
+pub fields_end : (xs : List Position) (i : ℕ) → length xs ≤ i → first_met (fields_of_each (drop i xs)) ≡ 0
 unfolding fields_of_each
-fields_end xs n i h = ap (λ ps. first_met (fields_of_each ps)) (rest_none xs n i h) ∙ none_met [] tt
+fields_end xs i h = ap (λ ps. first_met (fields_of_each ps)) (drop_of_length-le xs {i = i} h) ∙ none_met [] tt
 
 each_none : (ps : List Position) → NoneMet (fields_of_each ps) → Each (λ p. NoneMet (position_tests p)) ps
 unfolding fields_of_each

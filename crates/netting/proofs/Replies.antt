@@ -13,7 +13,7 @@ use Rattle.netting.specs.Refusals.{set_refusal}
 use Rattle.netting.specs.Reply.{refused_reply, reply_to, weighted_amount}
 use Rattle.netting.specs.Terms.{set_terms_refusal}
 use Rattle.netting.specs.declared.position.Position.{Position}
-use Rattle.netting.specs.declared.set.NettingReply.{NettingReply}
+use Rattle.netting.specs.Reply.{NettingReply}
 use Rattle.netting.specs.declared.terms.SetTerms.{SetTerms}
 use Rattle.netting.proofs.Refusing.{plain_set, plain_set_terms, terms_refused, too_many}
 

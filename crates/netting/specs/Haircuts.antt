@@ -1,10 +1,8 @@
 -- Haircuts of a netting set. 02: L6, "n is interval plus 4"; CRE22.73, "All other rules regarding the calculation of haircuts .. equivalently apply"
-use Rattle.std.specs.Prelude.{ℕ, ◌+◌, ◌≡◌}
+use Rattle.std.specs.Prelude.{ℕ, ◌+◌}
 use Rattle.tables.specs.Haircuts.{currency_haircut}
 use Rattle.tables.specs.Table.{table_of}
 use Rattle.scaling.specs.Scaling.{scaled}
-use Rattle.scaling.specs.TimeFactor.{IsTimeFactor}
-use Rattle.scaling.specs.declared.factor.TimeFactor.{TimeFactor}
 use Rattle.netting.specs.declared.position.Position.{Position}
 use Rattle.netting.specs.declared.terms.SetTerms.{SetTerms}
 
@@ -19,8 +17,3 @@ security_haircut t p = scaled ((table_of t.table).lent_haircut p.asset.goods p.a
 -- H_fx, likewise
 unfoldable pub currency_haircut_over : SetTerms → ℕ
 currency_haircut_over t = scaled currency_haircut (set_period t)
-
--- the square-root-of-time factor of its period, which the code works out once; only contracts of inner functions name it
-pub record FactorOf (t : SetTerms) (r : TimeFactor) : Type 0 where
-  pub period_is : r.period ≡ set_period t
-  pub factor_is : IsTimeFactor r

@@ -1,4 +1,3 @@
-pub mod AddOns
 pub mod Exposure
 pub mod Fields
 pub mod Groups

@@ -1,11 +1,14 @@
 -- The reply to a netting set. 02: L6
-use Rattle.std.specs.Prelude.{ℕ, ◌*◌, List, eqb, take, if◌then◌else◌}
+use Rattle.std.specs.Prelude.{ℕ, ◌*◌, List, Result, Ok, Err, eqb, take, if◌then◌else◌}
+use Rattle.deal.specs.Answers.{refusal_number}
 use Rattle.tables.specs.Table.{table_of}
 use Rattle.valuation.specs.Exposure.{risk_weighted_amount}
 use Rattle.netting.specs.Exposure.{exposure_after_netting}
 use Rattle.netting.specs.Refusals.{set_refusal}
 use Rattle.netting.specs.declared.position.Position.{Position}
-use Rattle.netting.specs.declared.set.NettingReply.{NettingReply}
+use Rattle.netting.specs.declared.refusal.SetRefusal.{SetRefusal}
+use Rattle.netting.specs.declared.refusal.SetRefusal.TheVariants.{Field, SetFull, SecurityDisagrees, NotEligible, AmountsAboveLimit}
+use Rattle.netting.specs.declared.set.NettingAmounts.{NettingAmounts}
 use Rattle.netting.specs.declared.set.NettingSet.{NettingSet}
 use Rattle.netting.specs.declared.terms.SetTerms.{SetTerms}
 
@@ -16,6 +19,12 @@ set_weight t = (table_of t.table).counterparty_weight t.counterparty.class t.cou
 -- "The weighted amount is E* times the counterparty's weight, divided by 100 and rounded up"
 unfoldable pub weighted_amount : SetTerms → List Position → ℕ
 weighted_amount t ps = risk_weighted_amount (exposure_after_netting t ps * set_weight t)
+
+-- the numbers that are sent: the refusal or 0, E* and the weighted amount
+pub record NettingReply : Type 0 where
+  pub refusal : ℕ
+  pub exposure : ℕ
+  pub rwa : ℕ
 
 -- "A refused set gives zeros"
 abbrev pub refused_reply : ℕ → NettingReply
@@ -35,3 +44,23 @@ positions_of s = take s.count s.positions
 -- NETTING A SET: the reply, for every set
 unfoldable pub set_reply : NettingSet → NettingReply
 set_reply s = reply_to s.terms s.count (positions_of s)
+
+-- THE NUMBERS OF A RESULT
+
+-- its number for each case: of a field that of a deal's
+unfoldable pub set_refusal_number : SetRefusal → ℕ
+set_refusal_number (Field refusal) = refusal_number refusal
+set_refusal_number SetFull = 6
+set_refusal_number SecurityDisagrees = 15
+set_refusal_number NotEligible = 16
+set_refusal_number AmountsAboveLimit = 17
+
+-- of an answer: the number of its refusal; 0 where nothing is refused
+unfoldable pub set_answer_number : {A : Type 0} → Result A SetRefusal → ℕ
+set_answer_number (Ok _) = 0
+set_answer_number (Err refusal) = set_refusal_number refusal
+
+-- the numbers that a result is sent as
+unfoldable pub reply_sent : Result NettingAmounts SetRefusal → NettingReply
+reply_sent (Ok amounts) = record { refusal = 0; exposure = amounts.exposure; rwa = amounts.rwa }
+reply_sent (Err refusal) = refused_reply (set_refusal_number refusal)

@@ -1,109 +1,75 @@
 // Absolute nets times haircuts, in millionths.
-ghost use Rattle.std.specs.Prelude.{◌≡◌, ◌≤◌, take};
-ghost use Rattle.netting.specs.AddOns.{add_on_of, figure_of, group_of};
-ghost use Rattle.netting.specs.Exposure.{currency_figure, security_figure};
-ghost use Rattle.netting.specs.Haircuts.{FactorOf, currency_haircut_over, security_haircut};
-ghost use Rattle.netting.specs.Limits.{Fitting};
+ghost use Rattle.std.specs.Prelude.{◌≡◌, ◌≤◌, ℕ};
+ghost use Rattle.netting.specs.Exposure.{currency_add_on, currency_figure, security_add_on, security_figure};
+ghost use Rattle.netting.specs.Haircuts.{currency_haircut_over, security_haircut};
+ghost use Rattle.netting.specs.Once.{sum_once};
 
+use crate::accepted::AcceptedSet;
 use crate::group::Group;
-use crate::haircuts::{currency_haircut, security_haircut};
 use crate::nets::net;
-use crate::once::any_from;
 use crate::position::Position;
-use crate::set::NettingSet;
-use crate::terms::SetTerms;
-use scaling::factor::TimeFactor;
 use signed::absolute;
 
-// What is netted by its number.
-#[derive(Clone, Copy)]
-pub enum Netted {
-    Securities,
-    Currencies,
-}
-
-// The positions that are netted with this one.
-fn group_of(netted: Netted, position: Position) -> Group
-    ensures { result ≡ group_of netted position }
-{
-    match netted {
-        Netted::Securities => Group::Security(position.security),
-        Netted::Currencies => Group::Currency(position.currency),
-    }
-}
-
-// What a position's security adds, where it counts.
-fn security_figure(
-    terms: SetTerms,
-    factor: TimeFactor,
-    positions: [Position; NettingSet::POSITION_LIMIT],
-    count: usize,
-    position: Position,
+// A figure summed once for each number: a position counts where no later one has its number.
+fn sum_once<N: Fn(&Position) -> u64, F: Fn(&Position) -> u64>(
+    positions: &[Position],
+    number: N,
+    figure: F,
 ) -> u64
-    requires { (count ≤ 32) × (Fitting terms (take count positions) × FactorOf terms factor) }
-    ensures { result ≡ security_figure (security_haircut terms) (take count positions) position }
+    ghost of: { (Position → ℕ) × (Position → ℕ) }
+    requires number_callable { N.IsAlwaysCallable number }
+    requires figure_callable { F.IsAlwaysCallable figure }
+    requires number_is { (p : _) (r : ℕ) → N.post number p r → r ≡ of.0 p.now }
+    requires figure_is { (p : _) (r : ℕ) → F.post figure p r → r ≡ of.1 p.now }
+    requires small { sum_once of.0 of.1 positions.now ≤ 1000000000000000000 }
+    ensures { result ≡ sum_once of.0 of.1 positions.now }
 {
-    if position.security == 0 {
-        return 0;
-    }
-    let net = absolute(net(positions, count, Group::Security(position.security)));
-    net * security_haircut(terms, factor, position)
-}
-
-// What a position's currency adds, where it counts.
-fn currency_figure(
-    terms: SetTerms,
-    factor: TimeFactor,
-    positions: [Position; NettingSet::POSITION_LIMIT],
-    count: usize,
-    position: Position,
-) -> u64
-    requires { (count ≤ 32) × (Fitting terms (take count positions) × FactorOf terms factor) }
-    ensures { result ≡ currency_figure terms.settlement (currency_haircut_over terms) (take count positions) position }
-{
-    if position.currency == terms.settlement {
-        return 0;
-    }
-    let net = absolute(net(positions, count, Group::Currency(position.currency)));
-    net * currency_haircut(terms, factor)
-}
-
-fn figure(
-    terms: SetTerms,
-    factor: TimeFactor,
-    positions: [Position; NettingSet::POSITION_LIMIT],
-    count: usize,
-    netted: Netted,
-    position: Position,
-) -> u64
-    requires { (count ≤ 32) × (Fitting terms (take count positions) × FactorOf terms factor) }
-    ensures { result ≡ figure_of netted terms (take count positions) position }
-{
-    match netted {
-        Netted::Securities => security_figure(terms, factor, positions, count, position),
-        Netted::Currencies => currency_figure(terms, factor, positions, count, position),
-    }
-}
-
-// The figures of all securities, or of all currencies: each number counts where no later position has it.
-pub fn add_on(
-    terms: SetTerms,
-    factor: TimeFactor,
-    positions: [Position; NettingSet::POSITION_LIMIT],
-    count: usize,
-    netted: Netted,
-) -> u64
-    requires { (count ≤ 32) × (Fitting terms (take count positions) × FactorOf terms factor) }
-    ensures { (result ≡ add_on_of netted terms (take count positions)) × (result ≤ 1000000000000000000) }
-{
-    let mut sum: u64 = 0;
-    let mut i: usize = 0;
-    while i < count {
-        let position = positions[i];
-        if !any_from(positions, count, i + 1, group_of(netted, position)) {
-            sum += figure(terms, factor, positions, count, netted, position);
+    let mut sum = 0;
+    let mut later = positions;
+    while let Some((position, rest)) = later.split_first() {
+        let its = number(position);
+        if !rest.iter().any(|p| number(p) == its) {
+            sum += figure(position);
         }
-        i += 1;
+        later = rest;
     }
     sum
+}
+
+impl AcceptedSet<'_> {
+    // What a position's security adds, where it counts.
+    fn security_figure(&self, position: &Position) -> u64
+        ensures { result ≡ security_figure (security_haircut self.now.terms) self.now.positions.now position.now }
+    {
+        if position.security == 0 {
+            return 0;
+        }
+        let net = absolute(net(self.positions, Group::Security(position.security)));
+        net * self.security_haircut(position)
+    }
+
+    // What a position's currency adds, where it counts.
+    fn currency_figure(&self, position: &Position) -> u64
+        ensures { result ≡ currency_figure self.now.terms.settlement (currency_haircut_over self.now.terms) self.now.positions.now position.now }
+    {
+        if position.currency == self.terms.settlement {
+            return 0;
+        }
+        let net = absolute(net(self.positions, Group::Currency(position.currency)));
+        net * self.currency_haircut()
+    }
+
+    // The figures of all securities.
+    pub fn security_add_on(&self) -> u64
+        ensures { (result ≡ security_add_on (security_haircut self.now.terms) self.now.positions.now) × (result ≤ 1000000000000000000) }
+    {
+        sum_once(self.positions, |p| p.security, |p| self.security_figure(p))
+    }
+
+    // The figures of all currencies.
+    pub fn currency_add_on(&self) -> u64
+        ensures { (result ≡ currency_add_on self.now.terms.settlement (currency_haircut_over self.now.terms) self.now.positions.now) × (result ≤ 1000000000000000000) }
+    {
+        sum_once(self.positions, |p| p.currency, |p| self.currency_figure(p))
+    }
 }

@@ -1,7 +1,8 @@
 // Haircuts over a set's holding period.
 ghost use Rattle.std.specs.Prelude.{◌≡◌, ◌≤◌};
-ghost use Rattle.netting.specs.Haircuts.{FactorOf, currency_haircut_over, security_haircut};
+ghost use Rattle.netting.specs.Haircuts.{currency_haircut_over, security_haircut, set_period};
 
+use crate::accepted::AcceptedSet;
 use crate::position::Position;
 use crate::terms::SetTerms;
 use scaling::factor::TimeFactor;
@@ -13,24 +14,24 @@ use tables::kinds::REPO_STYLE;
 // The time factor of the set's period: its minimum is that of repo-style transactions.
 pub fn factor_of(terms: SetTerms) -> TimeFactor
     requires { (1 ≤ terms.interval) × (terms.interval ≤ 60) }
-    ensures { FactorOf terms result }
+    ensures { result.period ≡ set_period terms }
 {
     TimeFactor::of_period(holding_period(REPO_STYLE, terms.interval))
 }
 
-// The haircut of a position's security. Goods that are not eligible can only have been lent.
-pub fn security_haircut(terms: SetTerms, factor: TimeFactor, position: Position) -> u64
-    requires { FactorOf terms factor }
-    ensures { result ≡ security_haircut terms position }
-{
-    let asset = position.asset;
-    factor.scale(lent_haircut_under(terms.table, asset.goods, asset.step, asset.life))
-}
+impl AcceptedSet<'_> {
+    // The haircut of a position's security. Goods that are not eligible can only have been lent.
+    pub fn security_haircut(&self, position: &Position) -> u64
+        ensures { result ≡ security_haircut self.now.terms position.now }
+    {
+        let asset = position.asset;
+        self.factor.scale(lent_haircut_under(self.terms.table, asset.goods, asset.step, asset.life))
+    }
 
-// The haircut of currencies other than settlement.
-pub fn currency_haircut(terms: SetTerms, factor: TimeFactor) -> u64
-    requires { FactorOf terms factor }
-    ensures { result ≡ currency_haircut_over terms }
-{
-    factor.scale(CURRENCY)
+    // The haircut of currencies other than settlement.
+    pub fn currency_haircut(&self) -> u64
+        ensures { result ≡ currency_haircut_over self.now.terms }
+    {
+        self.factor.scale(CURRENCY)
+    }
 }

@@ -3,6 +3,7 @@
 
 #![tactic(auto)]
 
+mod accepted;
 mod add_ons;
 mod agreement;
 mod amounts;
@@ -11,8 +12,7 @@ pub mod fields;
 mod group;
 mod haircuts;
 mod nets;
-mod once;
 pub mod position;
-mod refusal;
+pub mod refusal;
 pub mod set;
 pub mod terms;

@@ -1,60 +1,57 @@
 // Signed nets: lent less received.
-ghost use Rattle.std.specs.Prelude.{◌≡◌, ◌≤◌, pos, take, if◌then◌else◌};
+ghost use Rattle.std.specs.Prelude.{◌≡◌, ◌≤◌};
 ghost use Rattle.base.specs.Sum.{sum_of};
 ghost use Rattle.signed.specs.Signed.{◌less◌};
 ghost use Rattle.netting.specs.Groups.{member};
 ghost use Rattle.netting.specs.Nets.{lent, net as net_of, received};
 ghost use Rattle.netting.specs.Positions.{amount_of};
 
-use crate::group::{Group, is_member};
+use crate::group::Group;
 use crate::position::{LENT, Position};
-use crate::set::NettingSet;
 
-// What a position adds to a net: its amount, negative where it was received, and 0 where it does not count.
-fn signed_amount(position: Position, counts: bool) -> i64
-    requires { position.amount ≤ 1000000000000 }
-    ensures { result ≡ (if counts then lent position less received position else pos 0) }
+// A position's amount with its sign: negative where it was received.
+fn signed_amount(position: &Position) -> i64
+    requires { position.now.amount ≤ 1000000000000 }
+    ensures { result ≡ lent position.now less received position.now }
 {
-    if !counts {
-        return 0;
-    }
     let amount = position.amount as i64;
     if position.side == LENT {
-        return amount;
+        amount
+    } else {
+        -amount
     }
-    -amount
 }
 
 // The net of a group.
-pub fn net(positions: [Position; NettingSet::POSITION_LIMIT], count: usize, group: Group) -> i64
-    requires count_bound { count ≤ 32 }
-    requires positions_bound { sum_of amount_of (take count positions) ≤ 1000000000000 }
-    ensures { result ≡ net_of (member group) (take count positions) }
+pub fn net(positions: &[Position], group: Group) -> i64
+    requires { sum_of amount_of positions.now ≤ 1000000000000 }
+    ensures { result ≡ net_of (member group) positions.now }
 {
-    let mut sum: i64 = 0;
-    let mut i: usize = 0;
-    while i < count {
-        let position = positions[i];
-        sum += signed_amount(position, is_member(position, group));
-        i += 1;
+    let mut sum = 0;
+    for position in positions {
+        if group.contains(position) {
+            sum += signed_amount(position);
+        }
     }
     sum
 }
 
-// All that was lent.
-pub fn lent_total(positions: [Position; NettingSet::POSITION_LIMIT], count: usize) -> u64
-    requires count_bound { count ≤ 32 }
-    requires positions_bound { sum_of amount_of (take count positions) ≤ 1000000000000 }
-    ensures { result ≡ sum_of lent (take count positions) }
+// A position's amount, where it was lent.
+#[tactic(auto, unfolding(crate::specs::Nets::lent))]
+fn lent(position: &Position) -> u64
+    ensures { result ≡ lent position.now }
 {
-    let mut sum: u64 = 0;
-    let mut i: usize = 0;
-    while i < count {
-        let position = positions[i];
-        if position.side == LENT {
-            sum += position.amount;
-        }
-        i += 1;
+    if position.side == LENT {
+        position.amount
+    } else {
+        0
     }
-    sum
+}
+
+// All that was lent.
+pub fn lent_total(positions: &[Position]) -> u64
+    requires { sum_of amount_of positions.now ≤ 1000000000000 }
+    ensures { result ≡ sum_of lent positions.now }
+{
+    positions.iter().map(lent).sum()
 }

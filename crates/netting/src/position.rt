@@ -4,18 +4,17 @@ ghost use Rattle.deal.specs.Answers.{answer_number};
 ghost use Rattle.netting.specs.Positions.{position_refusal, security_allowed, side_known};
 
 use crate::set::NettingSet;
-use base::within;
-use deal::answer::Answer;
 use deal::asset::Asset;
 use deal::checks::FieldChecks;
 use deal::ranges::{amount_allowed, currency_allowed};
+use deal::refusal::Refusal;
 use tables::goods::CASH;
 
 pub const LENT: u64 = 1;
 
 pub const RECEIVED: u64 = 2;
 
-#[derive(Clone, Copy)]
+#[derive(Clone, Copy, Debug, PartialEq, Eq)]
 pub struct Position {
     // Lent or received.
     pub side: u64,
@@ -39,34 +38,38 @@ impl Position {
         currency: 0,
     };
 
+    #[tactic(auto, unfolding(base::specs::Range::within))]
     fn side_known(self) -> bool
         ensures { result ≡ side_known self }
     {
-        within(LENT, RECEIVED, self.side)
+        (LENT..=RECEIVED).contains(&self.side)
     }
 
     // Cash is no security, and nothing else goes without a number.
+    #[tactic(auto, unfolding(crate::specs::Positions::security_allowed, base::specs::Range::within))]
     fn security_allowed(self) -> bool
         ensures { result ≡ security_allowed self }
     {
         let asset = self.asset;
         if asset.goods == CASH {
-            return self.security == 0;
+            self.security == 0
+        } else {
+            (1..=NettingSet::SECURITY_LIMIT).contains(&self.security)
         }
-        within(1, NettingSet::SECURITY_LIMIT, self.security)
     }
 
     // The first refusal that its own fields meet.
-    pub fn check(self) -> Answer
+    #[tactic(auto, unfolding(crate::specs::Positions::position_refusal, crate::specs::Positions::position_tests))]
+    pub fn check(self) -> Result<(), Refusal>
         ensures { answer_number result ≡ position_refusal self }
     {
         let asset = self.asset;
         let checks = FieldChecks {
             amount: amount_allowed(self.amount),
-            codes: self.side_known() & asset.goods_known(),
+            codes: self.side_known() && asset.goods_known(),
             steps: asset.step_allowed(),
             currency: currency_allowed(self.currency),
-            ranges: self.security_allowed() & asset.life_allowed(),
+            ranges: self.security_allowed() && asset.life_allowed(),
             // Asked of items of a deal alone.
             maturity: true,
             conditions: true,

@@ -1,77 +1,76 @@
 // What a netting set is refused for.
-ghost use Rattle.std.specs.Prelude.{◌≡◌, ◌≤◌, take};
+ghost use Rattle.std.specs.Prelude.{◌≡◌, ◌≤◌, length};
 ghost use Rattle.base.specs.FirstMet.{first_met};
+ghost use Rattle.deal.specs.declared.refusal.Refusal.{Refusal};
 ghost use Rattle.netting.specs.Positions.{fields_of_each};
-ghost use Rattle.netting.specs.Refusals.{set_refusal, tests_over_all};
+ghost use Rattle.netting.specs.Refusals.{tests_over_all};
+ghost use Rattle.netting.specs.Reply.{set_answer_number, set_refusal_number};
+ghost use Rattle.netting.specs.declared.refusal.SetRefusal.TheVariants.{Field};
 
 use crate::agreement::any_disagree;
 use crate::amounts::{any_not_eligible, total};
 use crate::position::Position;
-use crate::set::NettingSet;
-use crate::terms::SetTerms;
 use deal::deal::Deal;
+use deal::refusal::Refusal;
 
-const SET_FULL: u64 = 6;
+#[derive(Clone, Copy, Debug, PartialEq, Eq)]
+pub enum SetRefusal {
+    // What a field of the terms or of a position is refused for.
+    Field(Refusal),
+    SetFull,
+    SecurityDisagrees,
+    NotEligible,
+    AmountsAboveLimit,
+}
 
-const SECURITY_DISAGREES: u64 = 15;
+impl SetRefusal {
+    #[tactic(auto, unfolding(crate::specs::Reply::set_refusal_number))]
+    pub fn number(self) -> u64
+        ensures { result ≡ set_refusal_number self }
+    {
+        match self {
+            SetRefusal::Field(refusal) => refusal.number(),
+            SetRefusal::SetFull => 6,
+            SetRefusal::SecurityDisagrees => 15,
+            SetRefusal::NotEligible => 16,
+            SetRefusal::AmountsAboveLimit => 17,
+        }
+    }
+}
 
-const NOT_ELIGIBLE: u64 = 16;
+impl From<Refusal> for SetRefusal {
+    ghost from_gives = { λ refusal result. result ≡ Field refusal };
 
-const AMOUNTS_ABOVE_LIMIT: u64 = 17;
+    fn from(refusal: Refusal) -> SetRefusal {
+        SetRefusal::Field(refusal)
+    }
+}
 
 // The first that the positions' own fields meet, position by position.
-fn positions_refusal(positions: [Position; NettingSet::POSITION_LIMIT], count: usize) -> u64
-    requires { count ≤ 32 }
-    ensures { result ≡ first_met (fields_of_each (take count positions)) }
+pub fn check_fields(positions: &[Position]) -> Result<(), SetRefusal>
+    ensures { set_answer_number result ≡ first_met (fields_of_each positions.now) }
 {
-    let mut i: usize = 0;
-    while i < count {
-        let position = positions[i];
-        let answer = position.check();
-        if !answer.is_accepted() {
-            return answer.number();
-        }
-        i += 1;
+    for position in positions {
+        position.check()?;
     }
-    0
+    Ok(())
 }
 
 // The first that all positions together meet.
-fn refusal_over_all(positions: [Position; NettingSet::POSITION_LIMIT], count: usize) -> u64
-    requires count_bound { count ≤ 32 }
-    requires positions_value { first_met (fields_of_each (take count positions)) ≡ 0 }
-    ensures { result ≡ first_met (tests_over_all (take count positions)) }
+#[tactic(auto, unfolding(crate::specs::Refusals::tests_over_all, crate::specs::Reply::set_answer_number, crate::specs::Reply::set_refusal_number, base::specs::FirstMet::first_or))]
+pub fn check_together(positions: &[Position]) -> Result<(), SetRefusal>
+    requires few { length positions.now ≤ 32 }
+    requires positions_value { first_met (fields_of_each positions.now) ≡ 0 }
+    ensures { set_answer_number result ≡ first_met (tests_over_all positions.now) }
 {
-    if any_disagree(positions, count) {
-        return SECURITY_DISAGREES;
+    if any_disagree(positions) {
+        return Err(SetRefusal::SecurityDisagrees);
     }
-    if any_not_eligible(positions, count) {
-        return NOT_ELIGIBLE;
+    if any_not_eligible(positions) {
+        return Err(SetRefusal::NotEligible);
     }
-    if total(positions, count) > Deal::AMOUNT_LIMIT {
-        return AMOUNTS_ABOVE_LIMIT;
+    if total(positions) > Deal::AMOUNT_LIMIT {
+        return Err(SetRefusal::AmountsAboveLimit);
     }
-    0
-}
-
-// The first that is due, or 0.
-pub fn set_refusal(
-    terms: SetTerms,
-    positions: [Position; NettingSet::POSITION_LIMIT],
-    count: usize,
-) -> u64
-    ensures { result ≡ set_refusal terms count (take count positions) }
-{
-    let answer = terms.check();
-    if !answer.is_accepted() {
-        return answer.number();
-    }
-    if count > NettingSet::POSITION_LIMIT {
-        return SET_FULL;
-    }
-    let refusal = positions_refusal(positions, count);
-    if refusal != 0 {
-        return refusal;
-    }
-    refusal_over_all(positions, count)
+    Ok(())
 }

@@ -1,10 +1,11 @@
 // A netting set, and the reply to it.
-ghost use Rattle.std.specs.Prelude.{◌≡◌};
-ghost use Rattle.netting.specs.Reply.{refused_reply, set_reply};
+ghost use Rattle.std.specs.Prelude.{◌≡◌, IfOk};
+ghost use Rattle.netting.specs.Refusals.{set_refusal};
+ghost use Rattle.netting.specs.Reply.{positions_of, reply_sent, set_answer_number, set_reply};
 
-use crate::exposure::{exposure_after_netting, weight_of};
+use crate::accepted::AcceptedSet;
 use crate::position::Position;
-use crate::refusal::set_refusal;
+use crate::refusal::{SetRefusal, check_fields, check_together};
 use crate::terms::SetTerms;
 use valuation::exposure::risk_weighted_amount;
 
@@ -15,24 +16,12 @@ pub struct NettingSet {
     pub count: usize,
 }
 
-#[derive(Clone, Copy)]
-pub struct NettingReply {
-    // The refusal, or 0.
-    pub refusal: u64,
-    // The exposure after netting, E*; 0 where it is refused.
+#[derive(Clone, Copy, Debug, PartialEq, Eq)]
+pub struct NettingAmounts {
+    // The exposure after netting, E*.
     pub exposure: u64,
-    // The risk-weighted amount; 0 where it is refused.
+    // The risk-weighted amount.
     pub rwa: u64,
-}
-
-fn refused(refusal: u64) -> NettingReply
-    ensures { result ≡ refused_reply refusal }
-{
-    NettingReply {
-        refusal,
-        exposure: 0,
-        rwa: 0,
-    }
 }
 
 impl NettingSet {
@@ -44,22 +33,30 @@ impl NettingSet {
     // The highest number of a security.
     pub const SECURITY_LIMIT: u64 = 999;
 
-    // E* and the weighted amount of the set, or its refusal.
-    pub fn reply(self) -> NettingReply
-        ensures { result ≡ set_reply self }
+    // The set as it is netted, or the first refusal that is due.
+    fn accepted(&self) -> Result<AcceptedSet<'_>, SetRefusal>
+        ensures refusal { set_answer_number result ≡ set_refusal self.now.terms self.now.count (positions_of self.now) }
+        ensures same { IfOk result (λ set. (set.terms ≡ self.now.terms) × (set.positions.now ≡ positions_of self.now)) }
     {
-        let terms = self.terms;
-        let positions = self.positions;
-        let count = self.count;
-        let refusal = set_refusal(terms, positions, count);
-        if refusal != 0 {
-            return refused(refusal);
+        self.terms.check()?;
+        if self.count > NettingSet::POSITION_LIMIT {
+            return Err(SetRefusal::SetFull);
         }
-        let exposure = exposure_after_netting(terms, positions, count);
-        NettingReply {
-            refusal: 0,
+        let positions = &self.positions[..self.count];
+        check_fields(positions)?;
+        check_together(positions)?;
+        Ok(AcceptedSet::new(self.terms, positions))
+    }
+
+    // E* and the weighted amount of the set, or its refusal.
+    pub fn reply(self) -> Result<NettingAmounts, SetRefusal>
+        ensures { reply_sent result ≡ set_reply self }
+    {
+        let set = self.accepted()?;
+        let exposure = set.exposure_after_netting();
+        Ok(NettingAmounts {
             exposure,
-            rwa: risk_weighted_amount(exposure * weight_of(terms)),
-        }
+            rwa: risk_weighted_amount(exposure * set.counterparty_weight()),
+        })
     }
 }

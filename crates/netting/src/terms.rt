@@ -4,11 +4,10 @@ ghost use Rattle.deal.specs.Answers.{answer_number};
 ghost use Rattle.netting.specs.Terms.{set_interval_allowed, set_terms_refusal, table_known};
 
 use crate::set::NettingSet;
-use base::within;
-use deal::answer::Answer;
 use deal::checks::FieldChecks;
 use deal::party::Party;
 use deal::ranges::currency_allowed;
+use deal::refusal::Refusal;
 
 const FIRST_TABLE: u64 = 2;
 
@@ -25,28 +24,31 @@ pub struct SetTerms {
     pub interval: u64,
 }
 
+#[tactic(auto, unfolding(base::specs::Range::within))]
 fn table_known(table: u64) -> bool
     ensures { result ≡ table_known table }
 {
-    within(FIRST_TABLE, LAST_TABLE, table)
+    (FIRST_TABLE..=LAST_TABLE).contains(&table)
 }
 
+#[tactic(auto, unfolding(base::specs::Range::within))]
 fn interval_allowed(interval: u64) -> bool
     ensures { result ≡ set_interval_allowed interval }
 {
-    within(1, NettingSet::INTERVAL_LIMIT, interval)
+    (1..=NettingSet::INTERVAL_LIMIT).contains(&interval)
 }
 
 impl SetTerms {
     // The first refusal that these fields meet.
-    pub fn check(self) -> Answer
+    #[tactic(auto, unfolding(crate::specs::Terms::set_terms_refusal, crate::specs::Terms::set_terms_tests))]
+    pub fn check(self) -> Result<(), Refusal>
         ensures { answer_number result ≡ set_terms_refusal self }
     {
         let counterparty = self.counterparty;
         let checks = FieldChecks {
             // Asked of positions alone.
             amount: true,
-            codes: table_known(self.table) & counterparty.counterparty_known(),
+            codes: table_known(self.table) && counterparty.counterparty_known(),
             steps: counterparty.steps_allowed(),
             currency: currency_allowed(self.settlement),
             ranges: interval_allowed(self.interval),

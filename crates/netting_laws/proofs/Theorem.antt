@@ -22,7 +22,7 @@ use Rattle.netting.specs.Positions.{is_lent, received_side}
 use Rattle.netting.specs.Refusals.{set_refusal}
 use Rattle.netting.specs.Reply.{positions_of, reply_to, set_reply, set_weight, weighted_amount}
 use Rattle.netting.specs.declared.position.Position.{Position}
-use Rattle.netting.specs.declared.set.NettingReply.{NettingReply}
+use Rattle.netting.specs.Reply.{NettingReply}
 use Rattle.netting.specs.declared.set.NettingSet.{NettingSet}
 use Rattle.netting.specs.declared.terms.SetTerms.{SetTerms}
 use Rattle.netting.proofs.HaircutBounds.{together_low}

@@ -1,0 +1,16 @@
+use Rattle.std.proofs.Common.{rules, ◌≡◌, ap₂, ◌∙◌, arith}
+use Rattle.tables.proofs.EditionBounds.{lent_low}
+use Rattle.scaling.specs.Scaling.{scaled}
+use Rattle.netting.specs.Haircuts.{security_haircut, set_period}
+use Rattle.netting.proofs.accepted.AcceptedSet.security_haircut.Goals as goal
+
+pub scale-requires : goal.scale-requires
+scale-requires c =
+    let asset = c.args.position.now.asset in
+    omega (arith, c.lent_haircut_under.ensures, lent_low c.args.self.now.terms.table asset.goods asset.step asset.life)
+
+pub returns : goal.returns
+unfolding security_haircut
+returns c =
+    let e : c.args.self.now.factor.period ≡ set_period c.args.self.now.terms = search rules in
+    c.scale.ensures ∙ ap₂ scaled c.lent_haircut_under.ensures e
