@@ -24,8 +24,8 @@ use Rattle.book.specs.Deals.{opens_deal, own_lines, deals_from}
 use Rattle.book.specs.Answers.{opening_refusal, opened_by, line_refusal, with_line, refused_at, reported, lines_answer, deal_answer, answers_from}
 use Rattle.book.specs.Heading.{heading_of}
 use Rattle.book.specs.Book.{book_tests, book_refusal, answered_deals, book_reply, results_after}
-use Rattle.book.specs.declared.heading.Heading.TheVariants.{Edition, Wrong}
-use Rattle.book.specs.declared.reply.BookReply.{BookReply}
+use Rattle.std.specs.Prelude.{Some, None}
+use Rattle.book.specs.Book.{BookReply}
 
 -- `unfolding worked` opens every definition that an answer comes from
 unfoldable pub worked : List ℕ → List ℕ → List ℕ
@@ -46,7 +46,7 @@ example_answered = refl
 -- first lines: the right ones; without a line feed, with a carriage return, none; with another number, or more of it
 headings_read :
     map heading_of (bytes "CRM\t1\n" ∷ bytes "CRM\t2\n" ∷ bytes "CRM\t3\n" ∷ bytes "CRM\t1" ∷ bytes "CRM\t2" ∷ bytes "CRM\t3" ∷ bytes "CRM\t1\r\n" ∷ bytes "CRM\t2\r\n" ∷ bytes "CRM\t3\r\n" ∷ bytes "" ∷ bytes "CRM\t0\n" ∷ bytes "CRM\t4\n" ∷ bytes "CRM\t03\n" ∷ bytes "CRM\t13\n" ∷ bytes "CRM\t33\n" ∷ bytes "CRM\t3\t\n" ∷ bytes "CRM\t02\n" ∷ bytes "CRM\t22\n" ∷ bytes "CRM\t2\t\n" ∷ bytes "CRM\t\n" ∷ [])
-    ≡ Edition 1 ∷ Edition 2 ∷ Edition 3 ∷ replicate 17 Wrong
+    ≡ Some 1 ∷ Some 2 ∷ Some 3 ∷ replicate 17 None
 unfolding worked
 headings_read = refl
 

@@ -28,6 +28,8 @@ use Rattle.lines.specs.Lines.{line_of}
 use Rattle.lines.specs.declared.line.Line.{Line}
 use Rattle.lines.specs.declared.line.Line.TheVariants.{DealLine, CollateralLine, GuaranteeLine, Malformed}
 use Rattle.book.specs.Answers.{malformed_line, line_refusal, with_line, lines_answer}
+use Rattle.book.specs.Items.{item_refusal, with_item}
+use Rattle.book.specs.declared.reading.Items.{Items}
 use Rattle.book.specs.Deals.{own_lines}
 use Rattle.book.specs.Start.{own_first}
 use Rattle.book.proofs.Answering.{componentwise, line_allowed, accepted_line, refused_line, no_more_lines}
@@ -57,6 +59,15 @@ module _ (t : Terms) (cs : CollateralList) (gs : GuaranteeList) (fits : record_a
   pub malformed_done : LineDone t cs gs Malformed malformed_line cs gs
   unfolding line_refusal with_line
   malformed_done = record { refused = refl; held = refl }
+
+-- as the items' own function does it
+pub item_done : (t : Terms) (i : Items) (fits : record_allowed (deal_of t i.collateral i.guarantees) ≡ true) (said : Line) →
+    LineDone t i.collateral i.guarantees said (item_refusal i said) (with_item i said).collateral (with_item i said).guarantees
+unfolding item_refusal with_item
+item_done t i fits (CollateralLine c) = collateral_done t i.collateral i.guarantees fits c
+item_done t i fits (GuaranteeLine g) = guarantee_done t i.collateral i.guarantees fits g
+item_done t i fits (DealLine t') = deal_done t i.collateral i.guarantees fits t'
+item_done t i fits Malformed = malformed_done t i.collateral i.guarantees fits
 
 -- the same of equals
 pub done_as : {t : Terms} {cs cs₁ cs₂ : CollateralList} {gs gs₁ gs₂ : GuaranteeList} {said₁ said₂ : Line} {r₁ r₂ : ℕ} → LineDone t cs gs said₁ r₁ cs₁ gs₁ →

@@ -4,3 +4,5 @@ pub mod Grouping
 pub mod Held
 pub mod Passing
 pub mod Refusing
+pub mod Numbers
+pub mod Written

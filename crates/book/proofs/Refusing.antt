@@ -1,6 +1,6 @@
 -- Laws of a book's refusals. Assumes nothing.
 use Prim.Native.Nat.{ℕ, ◌*◌, ◌≤◌}
-use mathlib.Core.Path.{◌≡◌, refl, ◌∙◌, ap}
+use mathlib.Core.Path.{sym, ◌≡◌, refl, ◌∙◌, ap}
 use mathlib.Core.Logic.{◌⊎◌, inl, inr, ⊎_elim}
 use mathlib.Core.Bool.{Bool, true, false, not, ◌&&◌}
 use mathlib.Core.List.{List, [], ◌∷◌}
@@ -18,10 +18,14 @@ use Rattle.text.proofs.Lines.{lines_first, no_lines}
 use Rattle.book.specs.Deals.{opens_deal}
 use Rattle.book.specs.Answers.{answers_from}
 use Rattle.book.specs.Heading.{edition_of, first_header, heading_of, is_wrong, second_header, third_header}
-use Rattle.book.specs.declared.heading.Heading.{Heading}
+use Rattle.std.specs.Prelude.{Option}
 use Rattle.book.specs.Start.{own_first}
 use Rattle.book.specs.Book.{book_edition, book_tests, book_refusal, deals_of, answered_deals, refused_reply, book_reply, results_after}
 use Rattle.base.specs.Writing.{overwrite}
+use Rattle.std.specs.Prelude.{Ok, Err}
+use Rattle.book.specs.Reply.{book_refusal_number, reply_sent}
+use Rattle.book.specs.declared.reply.BookRefusal.{BookRefusal}
+use Rattle.book.proofs.Numbers.{book_refusal_some}
 use Rattle.book.proofs.Grouping.{opens_first}
 use Rattle.book.proofs.Answering.{no_answers}
 
@@ -29,7 +33,7 @@ use Rattle.book.proofs.Answering.{no_answers}
 abbrev pub Headed : List ℕ → ℕ → Type 0
 Headed line edition = ((line ≡ first_header) × (edition ≡ 1)) ⊎ (((line ≡ second_header) × (edition ≡ 2)) ⊎ ((line ≡ third_header) × (edition ≡ 3)))
 
-abbrev Right : List ℕ → Heading → Type 0
+abbrev Right : List ℕ → Option ℕ → Type 0
 Right line h = is_wrong h ≡ false → Headed line (edition_of h)
 
 pub heading_right : (line : List ℕ) → is_wrong (heading_of line) ≡ false → Headed line (edition_of (heading_of line))
@@ -87,6 +91,15 @@ module _ (book : List ℕ) (places : ℕ) where
   pub reply_deals : (book_reply book places).deals ≡ length (answered_deals book places)
   unfolding book_reply
   reply_deals = refl
+
+  -- as they are sent
+  pub refused_sent : (r : BookRefusal) → book_refusal_number r ≡ book_refusal book places → reply_sent (Err r) ≡ book_reply book places
+  unfolding reply_sent book_reply
+  refused_sent r e = rw (e, none_answered (ap (λ n. eqb n 0) (sym e) ∙ book_refusal_some r))
+
+  pub accepted_sent : {deals : ℕ} → book_refusal book places ≡ 0 → deals ≡ length (deals_of book) → reply_sent (Ok deals) ≡ book_reply book places
+  unfolding reply_sent book_reply
+  accepted_sent e d = rw (e, d, all_answered (ap (λ n. eqb n 0) e))
 
   -- an accepted book meets no test
   pub accepted_tests : book_refusal book places ≡ 0 → NoneMet (book_tests book places)

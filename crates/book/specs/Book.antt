@@ -7,7 +7,6 @@ use Rattle.text.specs.Text.{book_limit, first_line, lines_of}
 use Rattle.book.specs.Deals.{DealLines, opens_deal, deals_from}
 use Rattle.book.specs.Answers.{answers_from}
 use Rattle.book.specs.Heading.{edition_of, heading_of, is_wrong}
-use Rattle.book.specs.declared.reply.BookReply.{BookReply}
 
 -- the edition that the first line says
 abbrev pub book_edition : List ℕ → ℕ
@@ -41,10 +40,15 @@ book_refusal book places = first_met (book_tests book places)
 unfoldable pub answered_deals : List ℕ → ℕ → List DealLines
 answered_deals book places = if eqb (book_refusal book places) 0 then deals_of book else []
 
+-- "The reply is the refusal, or 0, and the count of deals written"
+pub record BookReply : Type 0 where
+  pub refusal : ℕ
+  pub deals : ℕ
+
 abbrev pub refused_reply : ℕ → BookReply
 refused_reply refusal = record { refusal = refusal; deals = 0 }
 
--- ANSWERING A BOOK. "The reply is the refusal, or 0, and the count of deals written"
+-- ANSWERING A BOOK
 unfoldable pub book_reply : List ℕ → ℕ → BookReply
 book_reply book places = record { refusal = book_refusal book places; deals = length (answered_deals book places) }
 

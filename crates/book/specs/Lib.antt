@@ -2,6 +2,8 @@ pub mod Answers
 pub mod Book
 pub mod Deals
 pub mod Heading
+pub mod Items
 pub mod Opening
 pub mod Reading
+pub mod Reply
 pub mod Start

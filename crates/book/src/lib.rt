@@ -5,7 +5,7 @@
 pub mod answer;
 mod deals;
 pub mod heading;
-mod reading;
-mod refusal;
+pub mod reading;
+pub mod refusal;
 pub mod reply;
 mod results;

@@ -1,37 +1,52 @@
-// What the line that opens a deal says, and how it is refused.
-ghost use Rattle.std.specs.Prelude.{◌≡◌};
+// What a line of a deal is refused for, and what the line that opens one says.
+ghost use Rattle.std.specs.Prelude.{◌≡◌, IfOk};
+ghost use Rattle.deal.specs.declared.refusal.Refusal.{Refusal};
 ghost use Rattle.book.specs.Answers.{opening_refusal};
 ghost use Rattle.book.specs.Opening.{opening_terms};
+ghost use Rattle.book.specs.Reply.{line_answer_number, line_refusal_number};
+ghost use Rattle.book.specs.declared.refusal.LineRefusal.TheVariants.{Refused};
 
+use deal::refusal::Refusal;
 use deal::terms::Terms;
 use lines::line::Line;
 
-// A line that cannot be read.
-pub const MALFORMED: u64 = 11;
+#[derive(Clone, Copy, Debug, PartialEq, Eq)]
+pub enum LineRefusal {
+    // It cannot be read, or not at this place.
+    Malformed,
+    // By the operation that it asks for.
+    Refused(Refusal),
+}
 
-// The line that opens a deal; 0 where it is not refused.
-pub fn opening_refusal(line: Line) -> u64
-    ensures { result ≡ opening_refusal line }
-{
-    match line {
-        Line::DealLine(terms) => {
-            let answer = terms.check();
-            answer.number()
+impl LineRefusal {
+    #[tactic(auto, unfolding(crate::specs::Reply::line_refusal_number))]
+    pub fn number(self) -> u64
+        ensures { result ≡ line_refusal_number self }
+    {
+        match self {
+            LineRefusal::Malformed => 11,
+            LineRefusal::Refused(refusal) => refusal.number(),
         }
-        Line::CollateralLine(_) => MALFORMED,
-        Line::GuaranteeLine(_) => MALFORMED,
-        Line::Malformed => MALFORMED,
     }
 }
 
-// The terms on it, or zeros where it is no such line.
-pub fn opening_terms(line: Line) -> Terms
-    ensures { result ≡ opening_terms line }
-{
-    match line {
-        Line::DealLine(terms) => terms,
-        Line::CollateralLine(_) => Terms::ZERO,
-        Line::GuaranteeLine(_) => Terms::ZERO,
-        Line::Malformed => Terms::ZERO,
+impl From<Refusal> for LineRefusal {
+    ghost from_gives = { λ refusal result. result ≡ Refused refusal };
+
+    fn from(refusal: Refusal) -> LineRefusal {
+        LineRefusal::Refused(refusal)
     }
+}
+
+// The terms on the line that opens a deal.
+#[tactic(auto, unfolding(deal::specs::Answers::answer_number, crate::specs::Answers::opening_refusal, crate::specs::Opening::opening_terms, crate::specs::Reply::line_answer_number, crate::specs::Reply::line_refusal_number))]
+pub fn opening(line: Line) -> Result<Terms, LineRefusal>
+    ensures refusal { line_answer_number result ≡ opening_refusal line }
+    ensures terms { IfOk result (λ terms. terms ≡ opening_terms line) }
+{
+    let Line::DealLine(terms) = line else {
+        return Err(LineRefusal::Malformed);
+    };
+    terms.check()?;
+    Ok(terms)
 }

@@ -1,52 +1,67 @@
-// What a book as a whole is refused for, and the reply.
-ghost use Rattle.std.specs.Prelude.{◌≡◌};
-ghost use Rattle.book.specs.Book.{book_reply, refused_reply};
+// What a book as a whole is refused for, and what is found in one that is not.
+ghost use Rattle.std.specs.Prelude.{◌≡◌, IfOk, drop, length};
+ghost use Rattle.text.specs.Text.{first_line};
+ghost use Rattle.book.specs.Book.{book_edition, book_refusal, deals_of};
+ghost use Rattle.book.specs.Reply.{book_answer_number, book_refusal_number};
 
 use crate::deals::count_deals;
 use crate::heading::read_heading;
 use crate::reading::own_line;
 use text::{BOOK_LIMIT, line_end};
 
-const WRONG_HEADING: u64 = 9;
+#[derive(Clone, Copy, Debug, PartialEq, Eq)]
+pub enum BookRefusal {
+    WrongHeading,
+    TooLong,
+    NoDealFirst,
+    ListTooShort,
+}
 
-const TOO_LONG: u64 = 10;
+impl BookRefusal {
+    #[tactic(auto, unfolding(crate::specs::Reply::book_refusal_number))]
+    pub fn number(self) -> u64
+        ensures { result ≡ book_refusal_number self }
+    {
+        match self {
+            BookRefusal::WrongHeading => 9,
+            BookRefusal::TooLong => 10,
+            BookRefusal::NoDealFirst => 12,
+            BookRefusal::ListTooShort => 13,
+        }
+    }
+}
 
-const NO_DEAL_FIRST: u64 = 12;
-
-const LIST_TOO_SHORT: u64 = 13;
-
+// What a book holds that is answered.
 #[derive(Clone, Copy)]
-pub struct BookReply {
-    // The refusal of the whole book, or 0.
-    pub refusal: u64,
-    // How many deals are answered.
+pub struct Contents {
+    pub edition: u64,
+    // Where its first deal starts.
+    pub start: usize,
     pub deals: usize,
 }
 
-fn refused(refusal: u64) -> BookReply
-    ensures { result ≡ refused_reply refusal }
-{
-    BookReply { refusal, deals: 0 }
-}
-
-// The reply to a book, for a results list with so many places.
-pub fn reply_to(book: &[u8], places: usize) -> BookReply
-    ensures { result ≡ book_reply book.now places }
+// What a book holds, for a results list with so many places.
+pub fn examine(book: &[u8], places: usize) -> Result<Contents, BookRefusal>
+    ensures refusal { book_answer_number result ≡ book_refusal book.now places }
+    ensures found { IfOk result (λ c. (c.edition ≡ book_edition book.now) × ((c.start ≡ length (first_line book.now)) × (c.deals ≡ length (deals_of book.now)))) }
 {
     if book.len() > BOOK_LIMIT {
-        return refused(TOO_LONG);
+        return Err(BookRefusal::TooLong);
     }
-    let at = line_end(book, 0);
-    let heading = read_heading(&book[..at]);
-    if heading.is_wrong() {
-        return refused(WRONG_HEADING);
+    let start = line_end(book, 0);
+    let Some(edition) = read_heading(&book[..start]) else {
+        return Err(BookRefusal::WrongHeading);
+    };
+    if own_line(book, start) {
+        return Err(BookRefusal::NoDealFirst);
     }
-    if own_line(book, at) {
-        return refused(NO_DEAL_FIRST);
-    }
-    let deals = count_deals(&book[at..]);
+    let deals = count_deals(&book[start..]);
     if places / 4 < deals {
-        return refused(LIST_TOO_SHORT);
+        return Err(BookRefusal::ListTooShort);
     }
-    BookReply { refusal: 0, deals }
+    Ok(Contents {
+        edition,
+        start,
+        deals,
+    })
 }

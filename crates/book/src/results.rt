@@ -1,13 +1,25 @@
 // The results list: four numbers a deal.
 ghost use Rattle.std.specs.Prelude.{◌≡◌, [], ◌++◌, ◌∷◌, ◌+◌, ◌≤◌, drop, length, take};
+ghost use Rattle.book.specs.Reply.{answer_sent};
 
-// A deal's answer, put into its place.
-pub fn put_answer(results: &mut [u64], at: usize, serial: u64, refusal: u64, figure: u64, rwa: u64)
-    requires { at + 4 ≤ length results.old }
-    ensures { results.new ≡ take at results.old ++ (serial ∷ refusal ∷ figure ∷ rwa ∷ []) ++ drop (at + 4) results.old }
+use crate::reading::RefusedLine;
+use relief::bare::Amounts;
+
+#[tactic(auto, unfolding(crate::specs::Reply::answer_sent, crate::specs::Answers::refused_at))]
+fn numbers(serial: u64, answer: Result<Amounts, RefusedLine>) -> [u64; 4]
+    ensures { result ≡ serial ∷ answer_sent answer }
 {
-    results[at] = serial;
-    results[at + 1] = refusal;
-    results[at + 2] = figure;
-    results[at + 3] = rwa;
+    match answer {
+        Ok(amounts) => [serial, 0, amounts.exposure, amounts.rwa],
+        Err(line) => [serial, line.refusal.number(), line.number, 0],
+    }
+}
+
+// A deal's answer, put into its place behind its serial.
+pub fn put_answer(results: &mut [u64], at: usize, serial: u64, answer: Result<Amounts, RefusedLine>)
+    requires { at + 4 ≤ length results.old }
+    ensures { results.new ≡ take at results.old ++ (serial ∷ answer_sent answer) ++ drop (at + 4) results.old }
+{
+    let numbers = numbers(serial, answer);
+    results[at..at + 4].copy_from_slice(&numbers);
 }
