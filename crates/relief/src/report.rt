@@ -83,7 +83,7 @@ pub fn full_report(
     );
     let protections = guaranteed.protections;
     let count = guarantees.count;
-    let covered = cover(protections, count, exposure, weight);
+    let covered = cover(&protections[..count], exposure, weight);
     let values = guaranteed.reports;
     let portions = covered.portions;
     let reports = with_portions(values, portions, count);

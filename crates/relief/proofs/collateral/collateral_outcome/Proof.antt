@@ -13,7 +13,7 @@ combined-haircut-requires : tie.Need-combined_haircut-haircut-requires
 combined-haircut-requires c κs =
     let s = c.before.before in
     let a = s.args.item.asset in
-    (omega (arith, c.haircut_under-own.ensures, haircut_low s.args.terms.edition a.goods a.step a.life), s.requires.1.1)
+    omega (arith, c.haircut_under-own.ensures, haircut_low s.args.terms.edition a.goods a.step a.life)
 
 outcome-after-haircut-requires : tie.Need-outcome_after_haircut-requires
 unfolding combined_haircut_of table_for

@@ -13,7 +13,7 @@ scale-requires : tie.Need-scale-requires
 scale-requires c κs =
     let s = c.before.before in
     let lent = s.args.terms.lent in
-    (omega (arith, c.lent_haircut_under-haircut.ensures, lent_low s.args.terms.edition lent.goods lent.step lent.life), s.requires.1)
+    omega (arith, c.lent_haircut_under-haircut.ensures, lent_low s.args.terms.edition lent.goods lent.step lent.life)
 
 returns : tie.Need-returns
 unfolding scaled_lent_haircut table_for

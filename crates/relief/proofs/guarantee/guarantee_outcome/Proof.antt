@@ -13,7 +13,7 @@ provider-weight-under-requires : tie.Need-provider_weight_under-weight-requires
 provider-weight-under-requires c κs = let p = plain c.before in (p.class.0, (p.class.1, (p.step, p.sovereign_step)))
 
 scaled-currency-haircut-requires : tie.Need-scaled_currency_haircut-haircut-requires
-scaled-currency-haircut-requires c κs = c.before.before.requires.1.1
+scaled-currency-haircut-requires c κs = tt
 
 -- the weight under the deal's tables
 weighs : (c : tie.After-provider_weight_under-weight) → c.provider_weight_under-weight.result ≡ provider_weight_of (table_for c.before.before.args.terms) c.before.before.args.item
