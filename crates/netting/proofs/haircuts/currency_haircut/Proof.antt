@@ -7,7 +7,7 @@ use Rattle.netting.proofs.haircuts.currency_haircut.Statement.{statement}
 use Rattle.netting.proofs.haircuts.currency_haircut.Tie as tie
 
 scale-requires : tie.Need-scale-requires
-scale-requires c κs = (omega arith, c.requires.factor_is)
+scale-requires c κs = omega arith
 
 returns : tie.Need-returns
 unfolding currency_haircut_over

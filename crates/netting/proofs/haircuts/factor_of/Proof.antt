@@ -3,6 +3,7 @@ use Prim.Native.Nat.{ℕ, ◌≤◌}
 use mathlib.Core.Path.{◌≡◌, ◌∙◌}
 use native.Mathlib.Omega.{arith}
 use Rattle.scaling.specs.Period.{holding_period}
+use Rattle.scaling.proofs.Factors.{factor_is}
 use Rattle.scaling.proofs.Periods.{period_bound}
 use Rattle.netting.proofs.HaircutBounds.{repo_period}
 use Rattle.netting.proofs.haircuts.factor_of.Statement.{statement}
@@ -21,8 +22,8 @@ of-period-requires c κs = short _ _ _ c.holding_period.ensures c.before.require
 returns : tie.Need-returns
 returns c =
     record {
-      period_is = c.of_period.ensures.0 ∙ c.before.holding_period.ensures ∙ repo_period c.before.before.args.terms;
-      factor_is = c.of_period.ensures.1;
+      period_is = c.of_period.ensures ∙ c.before.holding_period.ensures ∙ repo_period c.before.before.args.terms;
+      factor_is = factor_is _;
     }
 
 pub factor_of_spec : {M : Type 1} → statement M

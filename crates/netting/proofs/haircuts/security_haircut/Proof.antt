@@ -14,7 +14,7 @@ scale-requires : tie.Need-scale-requires
 scale-requires c κs =
     let s = c.before.before in
     let asset = s.args.position.asset in
-    (omega (arith, c.lent_haircut_under.ensures, lent_low s.args.terms.table asset.goods asset.step asset.life), s.requires.factor_is)
+    omega (arith, c.lent_haircut_under.ensures, lent_low s.args.terms.table asset.goods asset.step asset.life)
 
 returns : tie.Need-returns
 unfolding security_haircut
