@@ -10,6 +10,7 @@ use Rattle.base.proofs.Tests.{tests}
 use Rattle.text.specs.Text.{lines_of}
 use Rattle.text.proofs.Lines.{rest_part, no_lines_at}
 use Rattle.scaling.proofs.Below.{factor_none}
+use Rattle.scaling.proofs.Factors.{factor_is}
 use Rattle.relief.specs.TimeFactors.{BothTimeFactors}
 use Rattle.book.specs.Deals.{DealLines, deals_from, opens_deal}
 use Rattle.book.specs.Answers.{answers_from, deal_answer}
@@ -149,7 +150,7 @@ loop-holds c =
         same = refl;
         room = omega (arith, p.1.1);
       },
-      (factor_none, factor_none),
+      (factor_is _, factor_is _),
     )
 
 sub-answer-deal : tie.Need-slice_bounds-answer_deal-count invariant-loop decreases-loop
@@ -220,12 +221,21 @@ returns c =
     ∙ ap (λ xs. xs ++ drop (l.deals * 4) l.results) all
     ∙ ap (λ xs. answers_from edition 1 (to_come lines 0 2) ++ xs) (l.invariant.0.behind ∙ ap (λ n. drop n before) count)
 
+-- the factors of no period, twice
+invariant-of-factors : tie.Need-invariant_of-factors invariant-loop decreases-loop
+invariant-of-factors c = (omega arith, (factor_none, tt))
+
+invariant-of-factors-2 : tie.Need-invariant_of-factors-2 invariant-loop decreases-loop
+invariant-of-factors-2 c = (omega arith, (factor_none, tt))
+
 pub answer_deals_spec : {M : Type 1} → statement M
 answer_deals_spec =
     tie.close
     (tie.spec
     invariant-loop
     decreases-loop
+    invariant-of-factors
+    invariant-of-factors-2
     loop-holds
     sub-answer-deal
     part-answer-deal-start
