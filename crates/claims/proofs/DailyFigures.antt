@@ -1,4 +1,5 @@
 -- The figures of daily revaluation: stored for whatever a table prints, each the one that scaling gives. Assumes nothing.
+use Rattle.std.specs.Prelude.{[], ◌∷◌, Some, None}
 use Prim.Native.Nat.{ℕ}
 use mathlib.Core.Path.{◌≡◌, refl, sym}
 use mathlib.Core.Bool.{true, false}
@@ -6,7 +7,6 @@ use Rattle.base.proofs.Choice.{if_false, if_true}
 use Rattle.scaling.specs.Period.{guarantee_period, holding_period}
 use Rattle.scaling.specs.Scaling.{scaled}
 use Rattle.scaling.specs.Stored.{is_daily, is_stored, stored_line}
-use Rattle.scaling.specs.declared.stored.Stored.TheVariants.{Figures, Nothing}
 use Rattle.scaling.proofs.DailyDeals.{currency_haircut_stored, daily_guarantee_period, daily_period, each_of_a_table, every_haircut_stored, every_lent_haircut_stored, factors, printed}
 use Rattle.scaling.proofs.Periods.{periods}
 use Rattle.scaling.proofs.Scaled.{scaled_means}
@@ -21,11 +21,11 @@ ten_days = refl
 daily : (t : Terms) → t.interval ≡ 1 → (is_daily (holding_period t.kind t.interval) ≡ true) × (is_daily (guarantee_period t.interval) ≡ true)
 daily t e = rw e (daily_period t.kind, daily_guarantee_period)
 
-stored_line_lem : (H : ℕ) → is_stored H ≡ true → stored_line H ≡ Figures (scaled H 5) (scaled H 10) (scaled H 20)
+stored_line_lem : (H : ℕ) → is_stored H ≡ true → stored_line H ≡ Some (scaled H 5 ∷ scaled H 10 ∷ scaled H 20 ∷ [])
 unfolding stored_line
 stored_line_lem H e = if_true (is_stored H) _ _ e
 
-no_other : (H : ℕ) → is_stored H ≡ false → stored_line H ≡ Nothing
+no_other : (H : ℕ) → is_stored H ≡ false → stored_line H ≡ None
 unfolding stored_line
 no_other H e = if_false (is_stored H) _ _ e
 

@@ -6,13 +6,12 @@
 -- `scaling::stored::stored_line` that the line it finds is `stored_line` of the haircut. That nothing is worked out which is stored is what two functions
 -- require: `scaling::scaling::scaled_haircut`, the one that takes a root, a period that is not daily; `scaling::factor::TimeFactor::work_out` a haircut that
 -- is not stored or a period that is not daily. Here it is said what is stored, and that it is right.
-use Rattle.std.specs.Prelude.{ℕ, ◌⊎◌, ◌≡◌, true, false, [], ◌∷◌, map}
+use Rattle.std.specs.Prelude.{ℕ, ◌⊎◌, ◌≡◌, true, false, [], ◌∷◌, map, Some, None}
 use Rattle.tables.specs.Haircuts.{currency_haircut}
 use Rattle.tables.specs.Table.{table_of}
 use Rattle.scaling.specs.Period.{guarantee_period, holding_period}
 use Rattle.scaling.specs.Scaling.{IsScaled, scaled}
 use Rattle.scaling.specs.Stored.{figure_over, is_daily, is_stored, over_daily, stored_figures, stored_haircuts, stored_line}
-use Rattle.scaling.specs.declared.stored.Stored.TheVariants.{Figures, Nothing}
 use Rattle.deal.specs.declared.terms.Terms.{Terms}
 
 -- the haircut of collateral of a type, step and issue life, as an edition's tables print it
@@ -54,12 +53,13 @@ pub record DailyFigures : Type 0 where
       ∷ printed 3 8 0 0
       ∷ []
   -- so a stored haircut has a line, and any other has none
-  pub stored_line_lem : (H : ℕ) → is_stored H ≡ true → stored_line H ≡ Figures (scaled H 5) (scaled H 10) (scaled H 20)
-  pub no_other : (H : ℕ) → is_stored H ≡ false → stored_line H ≡ Nothing
+  pub stored_line_lem : (H : ℕ) → is_stored H ≡ true → stored_line H ≡ Some (scaled H 5 ∷ scaled H 10 ∷ scaled H 20 ∷ [])
+  pub no_other : (H : ℕ) → is_stored H ≡ false → stored_line H ≡ None
   -- "EACH STORED FIGURE IS THE ONE SCALING GIVES"
 
   -- what is taken from a line over a daily period: the figure that scaling gives, "the least whole number h with 10 × h × h at or above H × H × n"
-  pub taken : (H n five ten twenty : ℕ) → is_daily n ≡ true → stored_line H ≡ Figures five ten twenty → (figure_over n five ten twenty ≡ scaled H n) × IsScaled H n (figure_over n five ten twenty)
+  pub taken : (H n five ten twenty : ℕ) → is_daily n ≡ true → stored_line H ≡ Some (five ∷ ten ∷ twenty ∷ []) →
+      (figure_over n (five ∷ ten ∷ twenty ∷ []) ≡ scaled H n) × IsScaled H n (figure_over n (five ∷ ten ∷ twenty ∷ []))
   -- the table, a line for each haircut in the order above, over 5, 10 and 20 days
   pub figures : stored_figures ≡
       (0 ∷ 0 ∷ 0 ∷ [])
