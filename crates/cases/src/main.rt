@@ -28,7 +28,7 @@ fn content<R: Files>(rt: &R, name: &[u8], buffer: &mut [u8]) -> usize
     let Ok(mut file) = File::open(rt, path) else {
         return 0;
     };
-    read_full(&mut file, buffer).count
+    read_full(&mut file, buffer).unwrap_or_else(|cut| cut.count)
 }
 
 // The same. A file that is missing, or may be longer, shows.

@@ -54,6 +54,6 @@ pub fn read_file<R: Files>(rt: &R, name: &[u8], ending: &[u8], buffer: &mut [u8]
             count: 0,
         };
     };
-    let count = read_full(&mut file, buffer).count;
+    let count = read_full(&mut file, buffer).unwrap_or_else(|cut| cut.count);
     Content { found: true, count }
 }

@@ -7,12 +7,10 @@ use response::respond;
 
 fn main(rt: HostRuntime) {
     let mut buffer = [0u8; 65537];
-    let input = read_input(&mut rt.stdin(), &mut buffer);
-    if !input.complete {
+    let Ok(count) = read_input(&mut rt.stdin(), &mut buffer) else {
         let _ = eprintln!(rt; "crmbook: standard input cannot be read");
         return;
-    }
-    let count = input.count;
+    };
     // Four numbers for each of 2,048 deals, and room for their text, whatever the numbers.
     let mut results = [0u64; 8192];
     let mut text = [0u8; 172061];

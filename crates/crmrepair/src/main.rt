@@ -8,12 +8,10 @@ use repairing::respond;
 
 fn main(rt: HostRuntime) {
     let mut bytes = [0u8; 65537];
-    let input = read_input(&mut rt.stdin(), &mut bytes);
-    if !input.complete {
+    let Ok(count) = read_input(&mut rt.stdin(), &mut bytes) else {
         let _ = eprintln!(rt; "crmrepair: standard input cannot be read");
         return;
-    }
-    let count = input.count;
+    };
     // For the longest book: its bytes, a number for each of as many lines, and room for their text, whatever the numbers.
     let mut buffer = [0u8; 65536];
     let mut list = [0u64; 65536];

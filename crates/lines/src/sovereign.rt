@@ -12,6 +12,7 @@ fn leaves_out_sovereign(edition: u64) -> bool
 }
 
 // How many fields a line has, of so many with the sovereign's step.
+#[tactic(auto, unfolding(crate::specs::Sovereign::width_under))]
 pub fn width_under(edition: u64, width: usize) -> usize
     requires { 1 ≤ width }
     ensures { result ≡ width_under edition width }
@@ -23,6 +24,7 @@ pub fn width_under(edition: u64, width: usize) -> usize
 }
 
 // A line's fields with the sovereign's step in its place, 0 where the line leaves it out.
+#[tactic(auto, using(crate::proofs::SovereignLaws::all_there, crate::proofs::SovereignLaws::put_in))]
 pub fn with_sovereign(edition: u64, fields: [u64; MOST_FIELDS]) -> [u64; MOST_FIELDS]
     ensures { result ≡ take most_fields (with_sovereign edition fields) }
 {

@@ -1,6 +1,12 @@
 use Rattle.std.proofs.Common.{arith}
-use Rattle.mail.proofs.Sizing.{few_dropped, two_passed, three_passed, four_passed}
+use Rattle.mail.proofs.Sizing.{few_dropped, one_passed, two_passed, three_passed, four_passed}
 use Rattle.mail.proofs.measure.pass_four.Goals as goal
+
+pub pass_byte-two-requires : goal.pass_byte-two-requires
+pass_byte-two-requires c =
+    let p = c.requires in
+    let r = one_passed _ _ _ p.0 p.1 _ _ c.pass_byte-one.ensures in
+    (omega (arith, p.0.four, r.0), omega (arith, few_dropped _ _ _ r.1))
 
 pub pass_byte-three-requires : goal.pass_byte-three-requires
 pass_byte-three-requires c =
