@@ -15,7 +15,7 @@ length_slices width zero ns = refl
 length_slices width (suc k) ns = ap suc (length_slices width k (drop width ns))
 
 -- the piece in a place
-piece_at : (width k : ℕ) (ns : List ℕ) (i : ℕ) → i < k → get_or (slices width k ns) i [] ≡ take width (drop (i * width) ns)
+pub piece_at : (width k : ℕ) (ns : List ℕ) (i : ℕ) → i < k → get_or (slices width k ns) i [] ≡ take width (drop (i * width) ns)
 unfolding slices
 piece_at width zero ns i h = absurd (not-suc-le-zero h)
 piece_at width (suc k) ns zero h = let e : 0 ≡ 0 * width = omega arith in ap (λ (n : ℕ). take width (drop n ns)) e
@@ -25,7 +25,7 @@ piece_at width (suc k) ns (suc i) h =
     ∙ ap (take width) (drop-drop (i * width) width ns ∙ ap (λ (n : ℕ). drop n ns) e)
 
 -- the part of the numbers that a loop takes for a place
-abbrev part : ℕ → List ℕ → ℕ → List ℕ
+abbrev pub part : ℕ → List ℕ → ℕ → List ℕ
 part width ns at = take (at + width - at) (drop at ns)
 
 pub part_wide : (width : ℕ) (ns : List ℕ) (at : ℕ) → at + width ≤ length ns → width ≤ length (part width ns at)
