@@ -63,6 +63,12 @@ pub all_implied : {A : Type 0} (p q : A → Bool) → ((x : A) → p x ≡ true 
 all_implied p q h [] e = refl
 all_implied p q h (x ∷ xs) e = let b = both (p x) (all_pass xs p) e in and_true _ _ (h x b.0) (all_implied p q h xs b.1)
 
+-- each of a list whose elements all pass
+pub all_in : {A : Type 0} (p : A → Bool) (i : ℕ) (xs : List A) (d : A) → i < length xs → all_pass xs p ≡ true → p (get_or xs i d) ≡ true
+all_in p i [] d h e = absurd (not-suc-le-zero h)
+all_in p zero (x ∷ xs) d h e = (both (p x) (all_pass xs p) e).0
+all_in p (suc i) (x ∷ xs) d h e = all_in p i xs d (le_of_suc-le-suc h) (both (p x) (all_pass xs p) e).1
+
 -- the library's word for it
 pub all_listed : {A : Type 0} (p : A → Bool) (xs : List A) → list_all p xs ≡ all_pass xs p
 all_listed p [] = refl

@@ -22,8 +22,7 @@ use Rattle.mail.specs.Listed.{listed}
 use Rattle.mail.specs.Mail.{altered_lines, repaired}
 use Rattle.mail.specs.Mailed.{Mailed}
 use Rattle.mail.specs.OnRuns.{OnRuns}
-use Rattle.mail.specs.Reply.{RepairOutcome, buffer_after, numbers_after, repair_refusal, repair_reply}
-use Rattle.mail.specs.declared.RepairReply.{RepairReply}
+use Rattle.mail.specs.Reply.{RepairOutcome, RepairReply, buffer_after, numbers_after, repair_refusal, repair_reply}
 use Rattle.repairing.specs.Repairing.{book_written, notice_written}
 
 pub record MailedBooks : Type 0 where

@@ -1,8 +1,8 @@
 -- What covers before a piece, summed piece by piece. Assumes nothing.
 use Rattle.std.proofs.Common.{if◌then◌else◌}
 use Prim.Native.Nat.{ℕ, suc, ◌+◌, ◌≤◌, ◌<◌}
-use mathlib.Core.Path.{◌≡◌, refl}
-use mathlib.Core.Bool.{Bool, true, false}
+use mathlib.Core.Path.{◌≡◌}
+use mathlib.Core.Bool.{Bool}
 use mathlib.Core.List.{List}
 use mathlib.Core.Logic.{⊎_elim}
 use native.Mathlib.Omega.{arith}
@@ -16,7 +16,7 @@ use Rattle.base.proofs.Sum.{sum_take}
 use Rattle.cover.specs.Cover.{lower_weighted, equal, before}
 use Rattle.cover.specs.declared.protection.Protection.{Protection}
 use Rattle.base.proofs.Compare.{side}
-use Rattle.cover.proofs.Levels.{lower_weighted_in, lower_weighted_out, lower_weighted_le, lower_weighted_next, equal_in, equal_out}
+use Rattle.cover.proofs.Levels.{lower_weighted_le, lower_weighted_next}
 
 -- what an array is read as past its end
 abbrev pub none : Protection
@@ -27,21 +27,6 @@ abbrev pub ahead : ℕ → Protection → Bool → ℕ
 ahead w p earlier = lower_weighted w p + (if earlier then equal w p else 0)
 
 module _ (w : ℕ) (p : Protection) (earlier : Bool) where
-  not_equal : equal w p ≡ 0 → (if earlier then equal w p else 0) ≡ 0
-  not_equal e = either (λ x. x ≡ 0) earlier (λ t. e) (λ t. refl)
-
-  pub ahead_lower_weighted : p.weight < w → ahead w p earlier ≡ p.value
-  ahead_lower_weighted h = omega (arith, lower_weighted_in w p h, not_equal (equal_out w p (λ e. omega arith)))
-
-  pub ahead_heavier : w < p.weight → ahead w p earlier ≡ 0
-  ahead_heavier h = omega (arith, lower_weighted_out w p (omega arith), not_equal (equal_out w p (λ e. omega arith)))
-
-  pub ahead_earlier : p.weight ≡ w → earlier ≡ true → ahead w p earlier ≡ p.value
-  ahead_earlier h e = omega (arith, lower_weighted_out w p (omega arith), if_true earlier (equal w p) 0 e, equal_in w p h)
-
-  pub ahead_later : p.weight ≡ w → earlier ≡ false → ahead w p earlier ≡ 0
-  ahead_later h e = omega (arith, lower_weighted_out w p (omega arith), if_false earlier (equal w p) 0 e)
-
   pub ahead_le : ahead w p earlier ≤ p.value
   ahead_le =
       either (λ x. lower_weighted w p + x ≤ p.value) earlier (λ t. omega (arith, lower_weighted_next w p, lower_weighted_le (suc w) p))
@@ -78,6 +63,6 @@ module _ (w : ℕ) (ps : List Protection) (place i : ℕ) where
       sum + more ≡ ahead_to w ps place (i + 1)
   ahead_more d sum more h e s = omega (arith, sum_take (lower_weighted w) ps i d h, earlier_more (equal w) ps i place d h)
 
-  pub ahead_all : place ≤ i → ahead_to w ps place i ≡ before w (take i ps) (take place ps)
+  pub ahead_all : length ps ≤ i → ahead_to w ps place i ≡ before w ps (take place ps)
   unfolding before
-  ahead_all h = rw (take_all i (take place ps) (omega (arith, length-take place ps)))
+  ahead_all h = rw (take_all i ps h, take_all i (take place ps) (omega (arith, length-take place ps)))

@@ -4,8 +4,8 @@ use mathlib.Core.Path.{◌≡◌, refl, sym, ◌∙◌}
 use mathlib.Core.Bool.{true}
 use mathlib.Core.List.{List, ◌++◌, map}
 use native.Mathlib.Omega.{arith}
-use lib.ListN.{length, take, drop, set, get_or, replicate, length-map, length-take}
-use lib.Seq.{take_all, take-take, get_or-take}
+use lib.ListN.{length, take, drop, set, get_or, replicate, length-map}
+use lib.Seq.{take_all}
 use Rattle.base.specs.All.{all_pass}
 use Rattle.base.specs.Places.{in_places}
 use Rattle.base.specs.Sum.{sum_of}
@@ -74,9 +74,7 @@ module _ {E : ℕ} {ps : List Protection} {portions : List ℕ} {left sum i : �
       rw (all_placed, t, off, s.weighed, whole)
 
 -- the next piece, as the code finds it
-pub next_piece : (E count : ℕ) (xs : List Protection) (i b r : ℕ) → i < count → count ≤ length xs →
-    b ≡ before (get_or xs i none).weight (take count xs) (take i xs) → r ≡ min (get_or xs i none).value (E - b) →
-    get_or (covered E (take count xs)) i none ≡ record { value = r; weight = (get_or xs i none).weight }
+pub next_piece : (E : ℕ) (ps : List Protection) (i b r : ℕ) → i < length ps → b ≡ before (get_or ps i none).weight ps (take i ps) → r ≡ min (get_or ps i none).value (E - b) →
+    get_or (covered E ps) i none ≡ record { value = r; weight = (get_or ps i none).weight }
 unfolding portion
-next_piece E count xs i b r h k e f =
-    covered_at E (take count xs) i none (omega (arith, length-take count xs)) ∙ rw (get_or-take count xs i none h, take-take i count xs (omega arith), f, e)
+next_piece E ps i b r h e f = covered_at E ps i none h ∙ rw (f, e)

@@ -7,3 +7,4 @@ pub mod Plain
 pub mod SameChecks
 pub mod Steps
 pub mod Swaps
+pub mod Views

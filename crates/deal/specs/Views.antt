@@ -21,6 +21,10 @@ pub record View : Type 0 where
 abbrev pub view_of : Deal → View
 view_of d = record { terms = d.terms; collateral = counted_collateral d.collateral; guarantees = counted_guarantees d.guarantees }
 
+-- a deal on these terms with these items
+abbrev pub view_on : Terms → List Collateral → List Guarantee → View
+view_on t cs gs = record { terms = t; collateral = cs; guarantees = gs }
+
 -- "Without protection all its lists are empty"
 abbrev pub unprotected : Terms → View
 unprotected t = record { terms = t; collateral = []; guarantees = [] }

@@ -4,7 +4,7 @@ use Prim.Native.Nat.{ℕ, ◌≤◌}
 use mathlib.Core.Path.{◌≡◌, refl, sym, ap, subst, ◌∙◌}
 use mathlib.Core.Bool.{Bool, true, false, ◌&&◌, ◌||◌}
 use mathlib.Core.List.{List, [], ◌∷◌}
-use mathlib.Core.Option.{Option, none, some}
+use Rattle.std.specs.Prelude.{Option, Some, None}
 use lib.Dec.{eqb, leb}
 use lib.ListN.{length}
 use borrow.Author.Tests.{not-false as held}
@@ -200,8 +200,8 @@ module _ (d : Deal) (a : accepted_by in_force d ≡ true) where
 
 read_same : (f g : List ℕ → Line) → ((fields : List ℕ) → f fields ≡ g fields) → (o : Option (List ℕ)) → if_read f o ≡ if_read g o
 unfolding if_read
-read_same f g h none = refl
-read_same f g h (some fields) = h fields
+read_same f g h None = refl
+read_same f g h (Some fields) = h fields
 
 deal_fields : (fields : List ℕ) → deal_line 1 fields ≡ DealLine (terms_before fields)
 unfolding deal_line with_sovereign

@@ -4,7 +4,7 @@ use Prim.Native.Nat.{ℕ, ◌+◌}
 use mathlib.Core.Path.{◌≡◌, refl, ap, ◌∙◌}
 use mathlib.Core.Bool.{Bool, true}
 use mathlib.Core.List.{List, [], ◌∷◌}
-use mathlib.Core.Option.{Option, none, some}
+use Rattle.std.specs.Prelude.{Option, Some, None}
 use borrow.Author.Tests.{eq-eqb}
 use lib.Dec.{eqb}
 use Rattle.base.specs.All.{all_pass}
@@ -32,8 +32,8 @@ Says edition Malformed = Unit {0}
 -- by what is said of fields that could be read
 pub read_says : (P : Line → Type 0) (said : List ℕ → Line) → P Malformed → ((fields : List ℕ) → P (said fields)) → (o : Option (List ℕ)) → P (if_read said o)
 unfolding if_read
-read_says P said m h none = m
-read_says P said m h (some fields) = h fields
+read_says P said m h None = m
+read_says P said m h (Some fields) = h fields
 
 -- by the letter
 pub said_edition : (edition : ℕ) (line : List ℕ) → Says edition (line_of edition line)

@@ -3,7 +3,7 @@ use Rattle.std.proofs.Common.{if◌then◌else◌}
 use Prim.Native.Nat.{ℕ, ◌≤◌}
 use mathlib.Core.Path.{◌≡◌, refl}
 use mathlib.Core.List.{List, [], ◌∷◌, map}
-use mathlib.Core.Option.{Option, none, some}
+use Rattle.std.specs.Prelude.{Option, Some, None}
 use native.Mathlib.Omega.{arith}
 use lib.Dec.{eqb}
 use lib.ListN.{length, length-append}
@@ -31,13 +31,13 @@ module _ (edition : ℕ) where
 
   deal_holds : (o : Option (List ℕ)) → HoldsEdition (if_read (deal_line edition) o)
   unfolding if_read deal_line
-  deal_holds none = tt
-  deal_holds (some fields) = refl
+  deal_holds None = tt
+  deal_holds (Some fields) = refl
 
   item_holds : (said : List ℕ → Line) → ((fields : List ℕ) → HoldsEdition (said fields)) → (o : Option (List ℕ)) → HoldsEdition (if_read said o)
   unfolding if_read
-  item_holds said h none = tt
-  item_holds said h (some fields) = h fields
+  item_holds said h None = tt
+  item_holds said h (Some fields) = h fields
 
   line_holds : (line : List ℕ) → HoldsEdition (line_of edition line)
   unfolding line_of collateral_line guarantee_line swap_line
@@ -70,8 +70,8 @@ module _ (edition : ℕ) where
 
   none_said : (n : ℕ) (said : List ℕ → Line) → ((fields : List ℕ) → length (collateral_said (said fields)) ≡ 0) → (o : Option (List ℕ)) → AtMost n (if_read said o)
   unfolding if_read
-  none_said n said h none = omega arith
-  none_said n said h (some fields) = omega (arith, h fields)
+  none_said n said h None = omega arith
+  none_said n said h (Some fields) = omega (arith, h fields)
 
   by_letter : (line : List ℕ) → AtMost (if is_collateral_line line then 1 else 0) (line_of edition line)
   unfolding line_of deal_line guarantee_line swap_line

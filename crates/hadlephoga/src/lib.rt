@@ -68,10 +68,18 @@ pub fn hadlephoga_repair_book(
     ensures repaired_after { repaired.new ≡ buffer_after book.now repaired.old (length altered.old) }
     ensures altered_after { altered.new ≡ numbers_after book.now (length repaired.old) altered.old }
 {
-    let reply = repair_book(book, repaired, altered);
-    *bytes = reply.bytes as u64;
-    *lines = reply.lines as u64;
-    reply.refusal
+    match repair_book(book, repaired, altered) {
+        Ok(sizes) => {
+            *bytes = sizes.bytes as u64;
+            *lines = sizes.lines as u64;
+            0
+        }
+        Err(refusal) => {
+            *bytes = 0;
+            *lines = 0;
+            refusal.number()
+        }
+    }
 }
 
 // The reply to a netting set, six numbers and seven for each position: 11, the refusal or 0, with E* and the weighted amount beside it.

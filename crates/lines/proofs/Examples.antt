@@ -17,12 +17,12 @@ use Rattle.lines.specs.Fields.{field_of, is_end, and_then, with_number, fields_o
 use Rattle.lines.specs.Sovereign.{width_under, with_sovereign}
 use Rattle.lines.specs.Lines.{deal_line, collateral_line, guarantee_line, swap_line, if_read, line_of}
 use Rattle.lines.specs.declared.number.Number.{Number}
-use Rattle.lines.specs.declared.number.Number.TheVariants.{Value, NoNumber}
+use Rattle.std.specs.Prelude.{Option, Some, None}
 use Rattle.lines.specs.declared.line.Line.{Line}
 use Rattle.lines.specs.declared.line.Line.TheVariants.{DealLine, CollateralLine, GuaranteeLine, Malformed}
 
 -- "A number has 1 to 13 digits and no leading zero, save 0 itself"
-abbrev numbers : List Number
+abbrev numbers : List (Option Number)
 numbers =
     map number_of (
     bytes "0"
@@ -39,7 +39,10 @@ numbers =
     ∷ []
     )
 
-numbers_read : numbers ≡ Value 0 1 ∷ Value 7 1 ∷ Value 9999999999999 13 ∷ Value 12 2 ∷ Value 12 2 ∷ replicate 6 NoNumber
+abbrev said_as : ℕ → ℕ → Option Number
+said_as value digits = Some (record { value = value; digits = digits })
+
+numbers_read : numbers ≡ said_as 0 1 ∷ said_as 7 1 ∷ said_as 9999999999999 13 ∷ said_as 12 2 ∷ said_as 12 2 ∷ replicate 6 None
 unfolding number_of number_read number_allowed digits_of decimal_from within
 numbers_read = refl
 
@@ -167,9 +170,9 @@ unfolding line_of width_under with_sovereign deal_line collateral_line guarantee
 longest_read = refl
 
 -- of all bytes the tab alone parts fields, and the line feed alone ends them, with nothing before it
-unfoldable is_number : Number → Bool
-is_number NoNumber = false
-is_number (Value value count) = true
+unfoldable is_number : Option Number → Bool
+is_number None = false
+is_number (Some number) = true
 
 parts_only :
     (only tab (λ b. is_number (field_of (b ∷ bytes "1"))) ≡ true)

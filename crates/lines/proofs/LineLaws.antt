@@ -1,8 +1,8 @@
 -- The laws of what a line says. Assumes nothing.
 use Prim.Native.Nat.{ℕ, zero, suc, ◌+◌, ◌<◌}
-use mathlib.Core.Path.{◌≡◌, refl, ◌∙◌}
+use mathlib.Core.Path.{◌≡◌, refl, sym, ◌∙◌}
 use mathlib.Core.List.{List, [], ◌∷◌, ◌++◌}
-use mathlib.Core.Option.{Option, none, some}
+use Rattle.std.specs.Prelude.{Option, Some, None}
 use native.Mathlib.Nat.{not-suc-le-zero}
 use native.Mathlib.Omega.{arith}
 use lib.ListN.{length, get_or, drop, replicate, take}
@@ -10,8 +10,11 @@ use lib.Seq.{get_or-drop, get_or-take}
 use Rattle.base.specs.Places.{in_places}
 use Rattle.base.proofs.Placed.{places_hold}
 use Rattle.deal.specs.Fields.{guarantee_sent, swap_sent, terms_under}
-use Rattle.lines.specs.Fields.{fields_held, most_fields}
-use Rattle.lines.specs.Lines.{deal_line, collateral_line, guarantee_line, swap_line, if_read, if_held}
+use borrow.Author.Tests.{ne_eqb}
+use Rattle.lines.specs.Fields.{fields_held, fields_of, most_fields}
+use Rattle.lines.specs.Sovereign.{width_under}
+use Rattle.lines.specs.declared.line.Line.TheVariants.{Malformed}
+use Rattle.lines.specs.Lines.{deal_line, collateral_line, guarantee_line, swap_line, if_read, line_of}
 use Rattle.lines.specs.declared.line.Line.{Line}
 use Rattle.lines.proofs.SovereignLaws.{sovereign_same}
 
@@ -28,26 +31,56 @@ held_at vs k =
     k
 
 -- what is said of fields is said of them in the places that hold them
-held : (said : List ℕ → Line) → ((vs : List ℕ) → said (in_places 11 0 vs) ≡ said vs) → (o : Option (List ℕ)) → if_held said (fields_held o) ≡ if_read said o
-unfolding if_held if_read fields_held
-held said same none = refl
-held said same (some vs) = same vs
+held : (said : List ℕ → Line) → ((vs : List ℕ) → said (in_places 11 0 vs) ≡ said vs) → (o : Option (List ℕ)) → if_read said (fields_held o) ≡ if_read said o
+unfolding if_read fields_held
+held said same None = refl
+held said same (Some vs) = same vs
 
-pub deal_held : (edition : ℕ) (o : Option (List ℕ)) → if_held (deal_line edition) (fields_held o) ≡ if_read (deal_line edition) o
-unfolding deal_line
-deal_held edition = held (deal_line edition) (λ vs. simp (sovereign_same edition (in_places 11 0 vs) vs (held_at vs)))
+-- what a line says, from the fields that could be read
+module _ (edition : ℕ) (r o : Option (List ℕ)) (e : r ≡ fields_held o) where
+  pub deal_held : if_read (deal_line edition) o ≡ if_read (deal_line edition) r
+  unfolding deal_line
+  deal_held = rw e (sym (held (deal_line edition) (λ vs. simp (sovereign_same edition (in_places 11 0 vs) vs (held_at vs))) o))
 
-pub collateral_held : (o : Option (List ℕ)) → if_held collateral_line (fields_held o) ≡ if_read collateral_line o
-unfolding collateral_line
-collateral_held = held collateral_line (λ vs. simp (held_at vs))
+  pub collateral_held : if_read collateral_line o ≡ if_read collateral_line r
+  unfolding collateral_line
+  collateral_held = rw e (sym (held collateral_line (λ vs. simp (held_at vs)) o))
 
-pub guarantee_held : (edition : ℕ) (o : Option (List ℕ)) → if_held (guarantee_line edition) (fields_held o) ≡ if_read (guarantee_line edition) o
-unfolding guarantee_line
-guarantee_held edition = held (guarantee_line edition) (λ vs. simp (sovereign_same edition (in_places 11 0 vs) vs (held_at vs)))
+  pub guarantee_held : if_read (guarantee_line edition) o ≡ if_read (guarantee_line edition) r
+  unfolding guarantee_line
+  guarantee_held = rw e (sym (held (guarantee_line edition) (λ vs. simp (sovereign_same edition (in_places 11 0 vs) vs (held_at vs))) o))
 
-pub swap_held : (edition : ℕ) (o : Option (List ℕ)) → if_held (swap_line edition) (fields_held o) ≡ if_read (swap_line edition) o
-unfolding swap_line
-swap_held edition = held (swap_line edition) (λ vs. simp (sovereign_same edition (in_places 11 0 vs) vs (held_at vs)))
+  pub swap_held : if_read (swap_line edition) o ≡ if_read (swap_line edition) r
+  unfolding swap_line
+  swap_held = rw e (sym (held (swap_line edition) (λ vs. simp (sovereign_same edition (in_places 11 0 vs) vs (held_at vs))) o))
+
+-- by the letter
+module _ (edition letter width : ℕ) (rest : List ℕ) (r : Option (List ℕ)) (e : r ≡ fields_held (fields_of width rest)) where
+  pub deal_said : letter ≡ 68 → width ≡ width_under edition 11 → if_read (deal_line edition) r ≡ line_of edition (letter ∷ rest)
+  unfolding line_of
+  deal_said l w = rw (l, ← w) (sym (deal_held edition r _ e))
+
+  pub collateral_said : letter ≡ 67 → width ≡ 11 → if_read collateral_line r ≡ line_of edition (letter ∷ rest)
+  unfolding line_of
+  collateral_said l w = rw (l, ← w) (sym (collateral_held edition r _ e))
+
+  pub guarantee_said : letter ≡ 71 → width ≡ width_under edition 10 → if_read (guarantee_line edition) r ≡ line_of edition (letter ∷ rest)
+  unfolding line_of
+  guarantee_said l w = rw (l, ← w) (sym (guarantee_held edition r _ e))
+
+  pub swap_said : letter ≡ 83 → width ≡ width_under edition 11 → if_read (swap_line edition) r ≡ line_of edition (letter ∷ rest)
+  unfolding line_of
+  swap_said l w = rw (l, ← w) (sym (swap_held edition r _ e))
+
+module _ (edition : ℕ) where
+  pub other_letter : (letter : ℕ) (rest : List ℕ) → (letter ≡ 68 → ⊥) → (letter ≡ 67 → ⊥) → (letter ≡ 71 → ⊥) → (letter ≡ 83 → ⊥) → line_of edition (letter ∷ rest) ≡ Malformed
+  unfolding line_of
+  other_letter letter rest d c g s = simp (ne_eqb letter 68 d, ne_eqb letter 67 c, ne_eqb letter 71 g, ne_eqb letter 83 s)
+
+  pub empty_line : (line : List ℕ) → length line ≡ 0 → line_of edition line ≡ Malformed
+  unfolding line_of
+  empty_line [] e = refl
+  empty_line (b ∷ bs) e = absurd (omega arith)
 
 -- as many fields as are held say what the whole of them would say
 module _ (l : List ℕ) where

@@ -1,11 +1,9 @@
 -- What a line says, by the edition that the heading says. 01: The book; the fields in the order of What a deal holds; 02: L1, L5, L9
-use Rattle.std.specs.Prelude.{ℕ, ◌-◌, List, [], ◌∷◌, eqb, if◌then◌else◌}
-use Rattle.std.proofs.Math.Option.{Option, none, some}
+use Rattle.std.specs.Prelude.{ℕ, ◌-◌, List, [], ◌∷◌, Option, Some, None, eqb, if◌then◌else◌}
 use Rattle.text.specs.Bytes.{byte}
 use Rattle.deal.specs.Fields.{collateral_in, collateral_width, guarantee_sent, sent_guarantee_width, sent_swap_width, swap_sent, terms_under, terms_width}
 use Rattle.lines.specs.Fields.{fields_of}
 use Rattle.lines.specs.Sovereign.{width_under, with_sovereign}
-use Rattle.lines.specs.declared.fields.Fields.{Fields}
 use Rattle.lines.specs.declared.line.Line.{Line}
 use Rattle.lines.specs.declared.line.Line.TheVariants.{DealLine, CollateralLine, GuaranteeLine, Malformed}
 
@@ -29,12 +27,8 @@ swap_line edition fields = GuaranteeLine (swap_sent (with_sovereign edition fiel
 
 -- what a line says, if its fields could be read
 unfoldable pub if_read : (List ℕ → Line) → Option (List ℕ) → Line
-if_read said none = Malformed
-if_read said (some fields) = said fields
-
--- the same of fields in the places that hold them
-unfoldable pub if_held : (List ℕ → Line) → Fields → Line
-if_held said fields = if fields.read then said fields.values else Malformed
+if_read said None = Malformed
+if_read said (Some fields) = said fields
 
 -- "lines D, C, G, each its letter and the fields in the order above (11, 12 and 10 fields with the letter)", and S (11); D, G and S with one more
 -- where they have the sovereign's step; the widths here leave the letter out. Malformed: "unknown letter, wrong number of fields, bad number, or no line feed"

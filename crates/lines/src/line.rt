@@ -1,8 +1,9 @@
 // What a line says.
-ghost use Rattle.std.specs.Prelude.{◌≡◌};
-ghost use Rattle.lines.specs.Lines.{collateral_line, deal_line, guarantee_line, if_held, line_of, swap_line};
+ghost use Rattle.std.specs.Prelude.{◌≡◌, ◌∷◌, unwrap_or};
+ghost use Rattle.lines.specs.Lines.{collateral_line, deal_line, guarantee_line, line_of, swap_line};
+ghost use Rattle.lines.specs.declared.line.Line.TheVariants.{Malformed};
 
-use crate::fields::{Fields, read_fields};
+use crate::fields::{MOST_FIELDS, read_fields};
 use crate::sovereign::{width_under, with_sovereign};
 use deal::collateral::Collateral;
 use deal::fields::{
@@ -12,6 +13,7 @@ use deal::fields::{
 use deal::guarantee::Guarantee;
 use deal::terms::Terms;
 
+// An enum of its own, and no `Option` of three kinds: that a line is malformed is one of the paper's answers, which theorems name.
 #[derive(Clone, Copy)]
 pub enum Line {
     DealLine(Terms),
@@ -24,76 +26,65 @@ pub enum Line {
 // Of a line D, which leaves the edition out.
 const DEAL_WIDTH: usize = TERMS_WIDTH - 1;
 
-fn deal_line(edition: u64, fields: Fields) -> Line
-    ensures { result ≡ if_held (deal_line edition) fields }
+#[tactic(auto, using(crate::proofs::LineLaws::whole_terms), unfolding(crate::specs::Lines::deal_line))]
+fn deal_line(edition: u64, fields: [u64; MOST_FIELDS]) -> Line
+    ensures { result ≡ deal_line edition fields }
 {
-    if !fields.read {
-        return Line::Malformed;
-    }
-    let values = fields.values;
-    let own = with_sovereign(edition, values);
-    let said = terms_under(edition, &own);
-    Line::DealLine(said)
+    Line::DealLine(terms_under(edition, &with_sovereign(edition, fields)))
 }
 
-fn collateral_line(fields: Fields) -> Line
-    ensures { result ≡ if_held collateral_line fields }
+#[tactic(auto, unfolding(crate::specs::Lines::collateral_line))]
+fn collateral_line(fields: [u64; MOST_FIELDS]) -> Line
+    ensures { result ≡ collateral_line fields }
 {
-    if !fields.read {
-        return Line::Malformed;
-    }
-    let values = fields.values;
-    let said = collateral_in(&values);
-    Line::CollateralLine(said)
+    Line::CollateralLine(collateral_in(&fields))
 }
 
-fn guarantee_line(edition: u64, fields: Fields) -> Line
-    ensures { result ≡ if_held (guarantee_line edition) fields }
+#[tactic(auto, using(crate::proofs::LineLaws::whole_guarantee), unfolding(crate::specs::Lines::guarantee_line))]
+fn guarantee_line(edition: u64, fields: [u64; MOST_FIELDS]) -> Line
+    ensures { result ≡ guarantee_line edition fields }
 {
-    if !fields.read {
-        return Line::Malformed;
-    }
-    let values = fields.values;
-    let own = with_sovereign(edition, values);
-    let said = guarantee_sent(&own);
-    Line::GuaranteeLine(said)
+    Line::GuaranteeLine(guarantee_sent(&with_sovereign(edition, fields)))
 }
 
-fn swap_line(edition: u64, fields: Fields) -> Line
-    ensures { result ≡ if_held (swap_line edition) fields }
+#[tactic(auto, using(crate::proofs::LineLaws::whole_swap), unfolding(crate::specs::Lines::swap_line))]
+fn swap_line(edition: u64, fields: [u64; MOST_FIELDS]) -> Line
+    ensures { result ≡ swap_line edition fields }
 {
-    if !fields.read {
-        return Line::Malformed;
+    Line::GuaranteeLine(swap_sent(&with_sovereign(edition, fields)))
+}
+
+// What a line says behind its letter, if it can be read.
+fn read_behind(edition: u64, letter: u8, rest: &[u8]) -> Option<Line>
+    ensures { unwrap_or result Malformed ≡ line_of edition (letter ∷ rest.now) }
+{
+    match letter {
+        b'D' => {
+            let fields = read_fields(rest, width_under(edition, DEAL_WIDTH))?;
+            Some(deal_line(edition, fields))
+        }
+        b'C' => {
+            let fields = read_fields(rest, COLLATERAL_WIDTH)?;
+            Some(collateral_line(fields))
+        }
+        b'G' => {
+            let fields = read_fields(rest, width_under(edition, SENT_GUARANTEE_WIDTH))?;
+            Some(guarantee_line(edition, fields))
+        }
+        b'S' => {
+            let fields = read_fields(rest, width_under(edition, SENT_SWAP_WIDTH))?;
+            Some(swap_line(edition, fields))
+        }
+        _ => None,
     }
-    let values = fields.values;
-    let own = with_sovereign(edition, values);
-    let said = swap_sent(&own);
-    Line::GuaranteeLine(said)
 }
 
 // A line, with its line feed, if it has one, of a book headed by this edition.
 pub fn read_line(edition: u64, line: &[u8]) -> Line
     ensures { result ≡ line_of edition line.now }
 {
-    if line.len() == 0 {
+    let Some((letter, rest)) = line.split_first() else {
         return Line::Malformed;
-    }
-    let letter = line[0];
-    let at: usize = 1;
-    match letter {
-        b'D' => {
-            let width = width_under(edition, DEAL_WIDTH);
-            deal_line(edition, read_fields(&line[at..], width))
-        }
-        b'C' => collateral_line(read_fields(&line[at..], COLLATERAL_WIDTH)),
-        b'G' => {
-            let width = width_under(edition, SENT_GUARANTEE_WIDTH);
-            guarantee_line(edition, read_fields(&line[at..], width))
-        }
-        b'S' => {
-            let width = width_under(edition, SENT_SWAP_WIDTH);
-            swap_line(edition, read_fields(&line[at..], width))
-        }
-        _ => Line::Malformed,
-    }
+    };
+    read_behind(edition, *letter, rest).unwrap_or(Line::Malformed)
 }

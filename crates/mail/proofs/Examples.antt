@@ -10,7 +10,9 @@ use Rattle.text.specs.Bytes.{bytes}
 use Rattle.text.specs.Text.{extend_first, lines_of, same_bytes}
 use Rattle.text.proofs.Bytes.{only}
 use Rattle.mail.specs.Mail.{in_front, runs_of, ends_at_feed, repaired_run, repaired_runs, repaired, differing, altered_lines}
-use Rattle.mail.specs.Reply.{buffer_after, numbers_after, repair_refusal, repair_reply, repair_tests, unless_refused}
+use Rattle.std.specs.Prelude.{Ok, Err}
+use Rattle.mail.specs.Reply.{buffer_after, numbers_after, refusal_number, refused_reply, repair_refusal, repair_reply, repair_tests, reply_sent, unless_refused}
+use Rattle.mail.specs.declared.RepairRefusal.TheVariants.{TooLong, BufferTooShort, ListTooShort}
 
 -- `unfolding worked` opens every definition that a repair comes from
 unfoldable pub worked : List ℕ → List ℕ
@@ -119,3 +121,9 @@ too_long = refl
 just_short : repair_refusal (replicate 65536 97) 0 0 ≡ 20
 unfolding worked
 just_short = refl
+
+-- a result as it is sent
+sent : (reply_sent (Ok (record { bytes = 9; lines = 1 })) ≡ record { refusal = 0; bytes = 9; lines = 1 })
+    × (map (λ refusal. reply_sent (Err refusal)) (TooLong ∷ BufferTooShort ∷ ListTooShort ∷ []) ≡ map refused_reply (10 ∷ 20 ∷ 41 ∷ []))
+unfolding reply_sent refusal_number
+sent = (refl, refl)

@@ -1,10 +1,12 @@
 -- The reply to a mailed book, and both lent lists afterwards. 02: L14
-use Rattle.std.specs.Prelude.{ℕ, ◌≡◌, List, [], ◌∷◌, eqb, ltb, length, if◌then◌else◌}
+use Rattle.std.specs.Prelude.{ℕ, ◌≡◌, List, [], ◌∷◌, Result, Ok, Err, eqb, ltb, length, if◌then◌else◌}
 use Rattle.base.specs.FirstMet.{Test, ◌when◌, first_met}
 use Rattle.base.specs.Writing.{overwrite}
 use Rattle.text.specs.Text.{book_limit}
 use Rattle.mail.specs.Mail.{repaired, altered_lines}
-use Rattle.mail.specs.declared.RepairReply.{RepairReply}
+use Rattle.mail.specs.declared.Repaired.{Repaired}
+use Rattle.mail.specs.declared.RepairRefusal.{RepairRefusal}
+use Rattle.mail.specs.declared.RepairRefusal.TheVariants.{TooLong, BufferTooShort, ListTooShort}
 
 -- "10 as for a book; 20 the second buffer is shorter than the result; 41 the list is shorter than the altered lines". `room` is
 -- how many bytes the second buffer holds, `places` how many numbers the list does
@@ -30,9 +32,26 @@ bytes_written book room places = unless_refused (repair_refusal book room places
 abbrev pub numbers_written : List ℕ → ℕ → ℕ → List ℕ
 numbers_written book room places = unless_refused (repair_refusal book room places) (altered_lines book)
 
+-- a reply as it is sent: the refusal, or 0; how many bytes the repaired book has, and how many lines were altered, both 0 where it is refused
+pub record RepairReply : Type 0 where
+  pub refusal : ℕ
+  pub bytes : ℕ
+  pub lines : ℕ
+
 -- the reply where it is refused
 abbrev pub refused_reply : ℕ → RepairReply
 refused_reply refusal = record { refusal = refusal; bytes = 0; lines = 0 }
+
+-- the number that a refusal is sent as
+unfoldable pub refusal_number : RepairRefusal → ℕ
+refusal_number TooLong = 10
+refusal_number BufferTooShort = 20
+refusal_number ListTooShort = 41
+
+-- and the reply that a result is sent as
+unfoldable pub reply_sent : Result Repaired RepairRefusal → RepairReply
+reply_sent (Ok repaired) = record { refusal = 0; bytes = repaired.bytes; lines = repaired.lines }
+reply_sent (Err refusal) = refused_reply (refusal_number refusal)
 
 -- REPAIRING A BOOK. "It gives both lengths, 0 when refused"
 unfoldable pub repair_reply : List ℕ → ℕ → ℕ → RepairReply

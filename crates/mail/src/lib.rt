@@ -2,7 +2,7 @@
 
 #![tactic(auto)]
 
-ghost use Rattle.mail.specs.Reply.{RepairOutcome, refused_reply};
+ghost use Rattle.mail.specs.Reply.{RepairOutcome, refusal_number, reply_sent};
 ghost use Rattle.std.specs.Prelude.{◌≡◌};
 
 mod measure;
@@ -13,51 +13,55 @@ use measure::measure;
 use text::BOOK_LIMIT;
 use write::write;
 
-const TOO_LONG: u64 = 10;
-
-const BUFFER_TOO_SHORT: u64 = 20;
-
-const LIST_TOO_SHORT: u64 = 41;
-
-#[derive(Clone, Copy)]
-pub struct RepairReply {
-    // The refusal, or 0.
-    pub refusal: u64,
-    // How many bytes the repaired book has; 0 where it is refused.
-    pub bytes: usize,
-    // How many lines were altered; 0 where it is refused.
-    pub lines: usize,
+#[derive(Clone, Copy, Debug, PartialEq, Eq)]
+pub enum RepairRefusal {
+    TooLong,
+    BufferTooShort,
+    ListTooShort,
 }
 
-fn refused(refusal: u64) -> RepairReply
-    ensures { result ≡ refused_reply refusal }
-{
-    RepairReply {
-        refusal,
-        bytes: 0,
-        lines: 0,
+impl RepairRefusal {
+    // As replies send it.
+    #[tactic(auto, unfolding(crate::specs::Reply::refusal_number))]
+    pub fn number(self) -> u64
+        ensures { result ≡ refusal_number self }
+    {
+        match self {
+            RepairRefusal::TooLong => 10,
+            RepairRefusal::BufferTooShort => 20,
+            RepairRefusal::ListTooShort => 41,
+        }
     }
 }
 
+#[derive(Clone, Copy, Debug, PartialEq, Eq)]
+pub struct Repaired {
+    // How many bytes the repaired book has.
+    pub bytes: usize,
+    // How many lines were altered.
+    pub lines: usize,
+}
+
 // A mailed book, repaired into the buffer, with the numbers of the altered lines in the list. Both stay as they were where it is refused.
-pub fn repair_book(book: &[u8], buffer: &mut [u8], list: &mut [u64]) -> RepairReply
-    ensures { RepairOutcome book.now buffer.old list.old result buffer.new list.new }
+pub fn repair_book(
+    book: &[u8],
+    buffer: &mut [u8],
+    list: &mut [u64],
+) -> Result<Repaired, RepairRefusal>
+    ensures { RepairOutcome book.now buffer.old list.old (reply_sent result) buffer.new list.new }
 {
     if book.len() > BOOK_LIMIT {
-        return refused(TOO_LONG);
+        return Err(RepairRefusal::TooLong);
     }
     let sizes = measure(book);
     let bytes = book.len() - sizes.dropped;
     if buffer.len() < bytes {
-        return refused(BUFFER_TOO_SHORT);
+        return Err(RepairRefusal::BufferTooShort);
     }
     if list.len() < sizes.lines {
-        return refused(LIST_TOO_SHORT);
+        return Err(RepairRefusal::ListTooShort);
     }
     write(book, buffer, list, sizes);
-    RepairReply {
-        refusal: 0,
-        bytes,
-        lines: sizes.lines,
-    }
+    let lines = sizes.lines;
+    Ok(Repaired { bytes, lines })
 }

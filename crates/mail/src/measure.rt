@@ -28,10 +28,7 @@ fn one_more(n: usize, more: bool) -> usize
     requires { n ≤ 65536 }
     ensures { result ≡ plus_if more n }
 {
-    if more {
-        return n + 1;
-    }
-    n
+    n + usize::from(more)
 }
 
 // Over a byte that is no line feed.
@@ -107,6 +104,7 @@ fn pass(book: &[u8], passed: Passed) -> Passed
     pass_byte(b, passed)
 }
 
+// By a place, from the end: a turn passes one byte, four of them, or a run of carriage returns with its line feed.
 pub fn measure(book: &[u8]) -> Sizes
     requires { length book.now ≤ 65536 }
     ensures { Measured book.now result }

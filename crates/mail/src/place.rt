@@ -24,15 +24,12 @@ fn returns_start(book: &[u8], end: usize) -> usize
     requires { end ≤ length book.now }
     ensures { Returns book.now result end }
 {
-    let mut start = end;
-    while start > 0 {
-        let before = start - 1;
+    for before in (0..end).rev() {
         if book[before] != CARRIAGE_RETURN {
-            return start;
+            return before + 1;
         }
-        start = before;
     }
-    start
+    0
 }
 
 // The place in front of a line feed and of the carriage returns of the run that ends at it, which are dropped.
@@ -64,6 +61,7 @@ pub fn past_byte(b: u8, place: Place) -> Place
 }
 
 // Whether there are four bytes before this place, and none is a line feed. They are compared at once, without branches.
+#[tactic(auto, unfolding(crate::specs::Working::no_feed_in_four))]
 pub fn no_feed_in_four(book: &[u8], at: usize) -> bool
     requires { at ≤ length book.now }
     ensures { result ≡ no_feed_in_four book.now at }

@@ -24,6 +24,7 @@ struct Filled {
 }
 
 // The byte that stands for one that stays.
+#[tactic(auto, unfolding(crate::specs::Bytewise::tabbed))]
 fn tabbed(b: u8) -> u8
     ensures { result ≡ tabbed_of b }
 {
@@ -37,10 +38,7 @@ fn one_less(n: usize, less: bool) -> usize
     requires { SomeIf less n }
     ensures { n ≡ plus_if less result }
 {
-    if less {
-        return n - 1;
-    }
-    n
+    n - usize::from(less)
 }
 
 // A byte in front of those that the buffer holds from `at` on, and where they start then. A space with a space behind it is left out: the
@@ -132,6 +130,7 @@ fn put(book: &[u8], buffer: &mut [u8], list: &mut [u64], filled: Filled) -> Fill
     put_one(buffer, b, filled)
 }
 
+// By a place, from the end, as `measure`.
 pub fn write(book: &[u8], buffer: &mut [u8], list: &mut [u64], sizes: Sizes)
     requires { Ready book.now buffer.old list.old sizes }
     ensures { (buffer.new ≡ overwrite (bytewise book.now) buffer.old)

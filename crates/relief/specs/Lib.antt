@@ -7,5 +7,4 @@ pub mod Maturity
 pub mod Outcomes
 pub mod Portions
 pub mod Report
-pub mod TimeFactors
 pub mod Weights

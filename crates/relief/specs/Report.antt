@@ -1,5 +1,5 @@
 -- Reporting a deal. 01: The four operations, Reporting a deal; 02: L2
-use Rattle.std.specs.Prelude.{ℕ, not, if◌then◌else◌}
+use Rattle.std.specs.Prelude.{ℕ, not, if◌then◌else◌, Ok, Err}
 use mathlib.Core.List.{List, [], ◌∷◌, map, zip_with}
 use Rattle.base.specs.FirstMet.{◌when◌, first_met}
 use Rattle.base.specs.Places.{in_places}
@@ -10,7 +10,7 @@ use Rattle.deal.specs.Lists.{list_limit}
 use Rattle.deal.specs.Records.{accepted}
 use Rattle.deal.specs.Editions.{table_for}
 use Rattle.deal.specs.Views.{View, view_of}
-use Rattle.deal.specs.declared.answer.Answer.TheVariants.{Accepted, RecordNotAccepted}
+use Rattle.deal.specs.declared.refusal.Refusal.TheVariants.{RecordNotAccepted}
 use Rattle.deal.specs.declared.terms.Terms.{Terms}
 use Rattle.deal.specs.declared.collateral.Collateral.{Collateral}
 use Rattle.deal.specs.declared.deal.Deal.{Deal}
@@ -44,7 +44,7 @@ guarantee_reports table v =
 -- of an accepted deal
 unfoldable pub full_report : Table → View → Report
 full_report table v = record {
-  answer = Accepted;
+  answer = Ok tt;
   exposure = exposure_after table v;
   collateral = in_places list_limit no_collateral (collateral_reports table v);
   guarantees = in_places list_limit no_guarantee (guarantee_reports table v);
@@ -59,7 +59,7 @@ report_refusal d = first_met (40 when not (accepted d) ∷ [])
 -- "The reply is then all zeros beside the 40 and the record is unchanged": reporting is given a copy and hands none back
 abbrev pub refused_report : Report
 refused_report = record {
-  answer = RecordNotAccepted;
+  answer = Err RecordNotAccepted;
   exposure = 0;
   collateral = in_places list_limit no_collateral [];
   guarantees = in_places list_limit no_guarantee [];

@@ -1,22 +1,21 @@
 // What a deal's collateral is worth.
-ghost use Rattle.std.specs.Prelude.{◌≡◌, true, map, ◌≤◌};
+ghost use Rattle.std.specs.Prelude.{◌≡◌, true, map, ◌≤◌, eqb, length};
+ghost use Rattle.base.specs.All.{all_pass};
 ghost use Rattle.deal.specs.Editions.{table_for};
-ghost use Rattle.deal.specs.Collateral.{collateral_list_allowed, counted_collateral};
+ghost use Rattle.deal.specs.Collateral.{collateral_refusal};
 ghost use Rattle.deal.specs.Lists.{list_limit};
 ghost use Rattle.base.specs.Places.{in_places};
-ghost use Rattle.scaling.specs.Period.{holding_period};
-ghost use Rattle.scaling.specs.TimeFactor.{IsTimeFactor};
 ghost use Rattle.relief.specs.Collateral.{collateral_outcome, combined_haircut_of};
 ghost use Rattle.relief.specs.Exposure.{collateral_total};
 ghost use Rattle.relief.specs.Report.{collateral_report, no_collateral};
 
+use crate::factors::TimedTerms;
 use crate::ground::Ground;
 use crate::maturity::{short_original, short_residual};
 use crate::outcome::Outcome;
-use deal::collateral::{Collateral, CollateralList};
+use deal::collateral::Collateral;
 use deal::deal::Deal;
 use deal::terms::Terms;
-use scaling::factor::TimeFactor;
 use tables::editions::haircut_under;
 use tables::eligibility::eligible;
 use valuation::haircuts::combined_haircut;
@@ -27,6 +26,13 @@ pub struct CollateralReport {
     pub outcome: Outcome,
 }
 
+impl CollateralReport {
+    // Of a place past the count.
+    pub const NONE: CollateralReport = CollateralReport {
+        outcome: Outcome::Valued(Valuation::NONE),
+    };
+}
+
 // What all items come to, in order of adding.
 #[derive(Clone, Copy)]
 pub struct CollateralValues {
@@ -35,6 +41,7 @@ pub struct CollateralValues {
 }
 
 // The first ground that applies, or the valuation under these haircuts.
+#[tactic(auto, using(tables::proofs::Versions::eligible_same), unfolding(base::specs::FirstMet::first_or, deal::specs::Editions::table_for, crate::specs::Collateral::collateral_outcome, crate::specs::Collateral::collateral_ground, crate::specs::Collateral::collateral_grounds, crate::specs::Collateral::collateral_valuation, crate::specs::Outcomes::outcome_for, crate::specs::Grounds::ground_with))]
 fn outcome_after_haircut(terms: Terms, item: Collateral, haircut: u64) -> Outcome
     requires { (item.amount ≤ 1000000000000) × (haircut ≡ combined_haircut_of (table_for terms) terms item) }
     ensures { result ≡ collateral_outcome (table_for terms) terms item }
@@ -68,37 +75,32 @@ fn outcome_after_haircut(terms: Terms, item: Collateral, haircut: u64) -> Outcom
     Outcome::Valued(valuation)
 }
 
-// One item of collateral, under the time factor of the deal's period.
-pub fn collateral_outcome(terms: Terms, item: Collateral, factor: TimeFactor) -> Outcome
-    requires { (item.amount ≤ 1000000000000) × ((factor.period ≡ holding_period terms.kind terms.interval) × IsTimeFactor factor) }
-    ensures { result ≡ collateral_outcome (table_for terms) terms item }
-{
-    let asset = item.asset;
-    let own = haircut_under(terms.edition, asset.goods, asset.step, asset.life);
-    let haircut = combined_haircut(factor, own, item.currency, terms.currency);
-    outcome_after_haircut(terms, item, haircut)
-}
-
-// Every item of a deal's collateral.
-pub fn value_collateral(terms: Terms, list: CollateralList, factor: TimeFactor) -> CollateralValues
-    requires { (collateral_list_allowed list ≡ true) × ((factor.period ≡ holding_period terms.kind terms.interval) × IsTimeFactor factor) }
-    ensures { (result.reports ≡ in_places list_limit no_collateral (map (collateral_report (table_for terms) terms) (counted_collateral list))) × (result.total ≡ collateral_total (table_for terms) terms (counted_collateral list)) }
-{
-    let items = list.items;
-    let count = list.count;
-    let none = CollateralReport {
-        outcome: Outcome::Valued(Valuation::NONE),
-    };
-    let mut reports = [none; Deal::COLLATERAL_LIMIT];
-    let mut total: u64 = 0;
-    let mut i: usize = 0;
-    while i < count {
-        let item = items[i];
-        let outcome = collateral_outcome(terms, item, factor);
-        reports[i] = CollateralReport { outcome };
-        let valuation = outcome.valuation();
-        total += valuation.value;
-        i += 1;
+impl TimedTerms {
+    // One item of collateral, under the time factor of the deal's period.
+    #[tactic(auto, using(tables::proofs::EditionBounds::haircut_low), unfolding(deal::specs::Editions::table_for, crate::specs::Collateral::combined_haircut_of))]
+    fn collateral_outcome(&self, item: Collateral) -> Outcome
+        requires { item.amount ≤ 1000000000000 }
+        ensures { result ≡ collateral_outcome (table_for self.now.terms) self.now.terms item }
+    {
+        let terms = self.terms;
+        let asset = item.asset;
+        let own = haircut_under(terms.edition, asset.goods, asset.step, asset.life);
+        let haircut = combined_haircut(self.factors.deal, own, item.currency, terms.currency);
+        outcome_after_haircut(terms, item, haircut)
     }
-    CollateralValues { reports, total }
+
+    // Every item of a deal's collateral.
+    pub fn value_collateral(&self, items: &[Collateral]) -> CollateralValues
+        requires { (length items.now ≤ 16) × (all_pass items.now (λ c. eqb (collateral_refusal c) 0) ≡ true) }
+        ensures { (result.reports ≡ in_places list_limit no_collateral (map (collateral_report (table_for self.now.terms) self.now.terms) items.now)) × (result.total ≡ collateral_total (table_for self.now.terms) self.now.terms items.now) }
+    {
+        let mut reports = [CollateralReport::NONE; Deal::COLLATERAL_LIMIT];
+        let mut total: u64 = 0;
+        for (i, item) in items.iter().enumerate() {
+            let outcome = self.collateral_outcome(*item);
+            reports[i] = CollateralReport { outcome };
+            total += outcome.valuation().value;
+        }
+        CollateralValues { reports, total }
+    }
 }

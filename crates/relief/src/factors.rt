@@ -1,7 +1,7 @@
-// The time factors of a deal's holding periods. Deals that stand one behind the other often share them.
+// A deal's terms with the time factors of its holding periods. Deals that stand one behind the other often share these.
 ghost use Rattle.std.specs.Prelude.{◌≡◌};
+ghost use Rattle.scaling.specs.Period.{guarantee_period, holding_period};
 ghost use Rattle.deal.specs.Terms.{terms_refusal};
-ghost use Rattle.relief.specs.TimeFactors.{BothTimeFactors, TimeFactorsOf};
 
 use deal::terms::Terms;
 use scaling::factor::TimeFactor;
@@ -15,28 +15,42 @@ pub struct TimeFactors {
     pub guarantees: TimeFactor,
 }
 
-impl TimeFactors {
-    // Of no period that a deal has.
-    pub const NONE: TimeFactors = TimeFactors {
-        deal: TimeFactor {
-            period: 0,
-            millionths: 0,
-        },
-        guarantees: TimeFactor {
-            period: 0,
-            millionths: 0,
-        },
-    };
+// Terms that opening a deal takes, and the factors of its own periods.
+#[derive(Clone, Copy)]
+pub struct TimedTerms {
+    pub terms: Terms,
+    pub factors: TimeFactors,
+    pub ghost not_refused: { terms_refusal terms ≡ 0 },
+    pub ghost deal_period: { factors.deal.period ≡ holding_period terms.kind terms.interval },
+    pub ghost guarantee_period: { factors.guarantees.period ≡ guarantee_period terms.interval },
+}
 
+impl TimeFactors {
+    // Of no period that a deal has. A function and no constant, so that what their types promise is proved once.
+    #[tactic(auto, using(scaling::proofs::Below::factor_none))]
+    pub fn none() -> TimeFactors {
+        let factor = TimeFactor {
+            period: 0,
+            millionths: 0,
+        };
+        TimeFactors {
+            deal: factor,
+            guarantees: factor,
+        }
+    }
+
+    #[tactic(auto, using(deal::proofs::Plain::plain_terms, scaling::proofs::Periods::period_bound, scaling::proofs::Periods::guarantee_bound))]
     // Those of a deal, some of which may be at hand.
-    pub fn for_terms(self, terms: Terms) -> TimeFactors
-        requires { (terms_refusal terms ≡ 0) × BothTimeFactors self }
-        ensures { TimeFactorsOf terms result }
+    pub fn for_terms(self, terms: Terms) -> TimedTerms
+        requires { terms_refusal terms ≡ 0 }
+        ensures { result.terms ≡ terms }
     {
-        let deal = self.deal;
-        let guarantees = self.guarantees;
-        let deal = deal.for_period(holding_period(terms.kind, terms.interval));
-        let guarantees = guarantees.for_period(guarantee_period(terms.interval));
-        TimeFactors { deal, guarantees }
+        let holding = holding_period(terms.kind, terms.interval);
+        let guaranteed = guarantee_period(terms.interval);
+        let factors = TimeFactors {
+            deal: self.deal.for_period(holding),
+            guarantees: self.guarantees.for_period(guaranteed),
+        };
+        TimedTerms { terms, factors }
     }
 }

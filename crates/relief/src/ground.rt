@@ -2,7 +2,7 @@
 ghost use Rattle.std.specs.Prelude.{◌≡◌};
 ghost use Rattle.relief.specs.Grounds.{ground_number};
 
-#[derive(Clone, Copy)]
+#[derive(Clone, Copy, Debug, PartialEq, Eq)]
 pub enum Ground {
     NotLawful,
     Related,
@@ -16,6 +16,7 @@ pub enum Ground {
 }
 
 impl Ground {
+    #[tactic(auto, unfolding(crate::specs::Grounds::ground_number))]
     pub fn number(self) -> u64
         ensures { result ≡ ground_number self }
     {

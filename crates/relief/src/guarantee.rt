@@ -3,11 +3,11 @@ ghost use Rattle.std.specs.Prelude.{◌≡◌, ◌≤◌};
 ghost use Rattle.deal.specs.Editions.{table_for};
 ghost use Rattle.deal.specs.Guarantees.{guarantee_refusal};
 ghost use Rattle.scaling.specs.Period.{guarantee_period};
-ghost use Rattle.scaling.specs.TimeFactor.{IsTimeFactor};
 ghost use Rattle.valuation.specs.Haircuts.{scaled_currency_haircut};
 ghost use Rattle.relief.specs.Weights.{counterparty_weight_of, provider_weight_of};
 ghost use Rattle.relief.specs.Guarantees.{guarantee_outcome, hedged_amount, is_unrated_entity, protection_of};
 
+use crate::factors::TimedTerms;
 use crate::ground::Ground;
 use crate::maturity::{short_original, short_residual};
 use crate::outcome::Outcome;
@@ -15,7 +15,6 @@ use cover::protection::Protection;
 use deal::guarantee::Guarantee;
 use deal::instrument::SWAP_WITHOUT_RESTRUCTURING;
 use deal::terms::Terms;
-use scaling::factor::TimeFactor;
 use tables::classes::OTHER_ENTITY;
 use tables::editions::provider_weight_under;
 use valuation::haircuts::scaled_currency_haircut;
@@ -30,6 +29,14 @@ pub struct GuaranteeReport {
     pub portion: u64,
 }
 
+impl GuaranteeReport {
+    // Of a place past the count.
+    pub const NONE: GuaranteeReport = GuaranteeReport {
+        outcome: Outcome::Valued(Valuation::NONE),
+        portion: 0,
+    };
+}
+
 // One guarantee's outcome, and what it covers with.
 #[derive(Clone, Copy)]
 pub struct ValuedGuarantee {
@@ -40,13 +47,10 @@ pub struct ValuedGuarantee {
 fn unrated_entity(item: Guarantee) -> bool
     ensures { result ≡ is_unrated_entity item }
 {
-    let provider = item.provider;
-    if provider.class != OTHER_ENTITY {
-        return false;
-    }
-    provider.step == 0
+    item.provider.class == OTHER_ENTITY && item.provider.step == 0
 }
 
+#[tactic(auto, unfolding(crate::specs::Guarantees::hedged_amount))]
 // The amount that is hedged: not the whole of a swap for which restructuring is no credit event.
 fn hedged_amount(terms: Terms, item: Guarantee) -> u64
     requires { item.amount ≤ 1000000000000 }
@@ -58,6 +62,7 @@ fn hedged_amount(terms: Terms, item: Guarantee) -> u64
     item.amount
 }
 
+#[tactic(auto, using(crate::proofs::Hedged::hedged_le), unfolding(base::specs::FirstMet::first_or, crate::specs::Guarantees::guarantee_outcome, crate::specs::Guarantees::guarantee_ground, crate::specs::Guarantees::guarantee_grounds, crate::specs::Guarantees::guarantee_valuation, crate::specs::Outcomes::outcome_for, crate::specs::Grounds::ground_with))]
 // The first ground that applies, or the valuation under this haircut. `weight` is the provider's, `counterparty_weight` the counterparty's.
 fn outcome_after_haircut(
     terms: Terms,
@@ -96,32 +101,33 @@ fn outcome_after_haircut(
     Outcome::Valued(valuation)
 }
 
-// One guarantee; `counterparty_weight` is the counterparty's, `factor` that of the guarantees' period.
-pub fn guarantee_outcome(
-    terms: Terms,
-    item: Guarantee,
-    counterparty_weight: u64,
-    factor: TimeFactor,
-) -> ValuedGuarantee
-    requires item_value { (guarantee_refusal item ≡ 0) × (counterparty_weight ≡ counterparty_weight_of (table_for terms) terms) }
-    requires period_value { (factor.period ≡ guarantee_period terms.interval) × IsTimeFactor factor }
-    ensures { (result.outcome ≡ guarantee_outcome (table_for terms) terms item) × (result.protection ≡ protection_of (table_for terms) terms item) }
-{
-    let provider = item.provider;
-    let weight = provider_weight_under(
-        terms.edition,
-        provider.class,
-        provider.step,
-        provider.sovereign_step,
-    );
-    let haircut = scaled_currency_haircut(factor, item.currency, terms.currency);
-    let outcome = outcome_after_haircut(terms, item, haircut, weight, counterparty_weight);
-    let valuation = outcome.valuation();
-    ValuedGuarantee {
-        outcome,
-        protection: Protection {
-            value: valuation.value,
-            weight,
-        },
+impl TimedTerms {
+    #[tactic(auto, using(deal::proofs::Plain::plain_guarantee), unfolding(deal::specs::Editions::table_for))]
+    // One guarantee; `counterparty_weight` is the counterparty's.
+    pub fn guarantee_outcome(&self, item: Guarantee, counterparty_weight: u64) -> ValuedGuarantee
+        requires { (guarantee_refusal item ≡ 0) × (counterparty_weight ≡ counterparty_weight_of (table_for self.now.terms) self.now.terms) }
+        ensures { (result.outcome ≡ guarantee_outcome (table_for self.now.terms) self.now.terms item) × (result.protection ≡ protection_of (table_for self.now.terms) self.now.terms item) }
+    {
+        let terms = self.terms;
+        let provider = item.provider;
+        let weight = provider_weight_under(
+            terms.edition,
+            provider.class,
+            provider.step,
+            provider.sovereign_step,
+        );
+        let haircut = scaled_currency_haircut(
+            self.factors.guarantees,
+            item.currency,
+            terms.currency,
+        );
+        let outcome = outcome_after_haircut(terms, item, haircut, weight, counterparty_weight);
+        ValuedGuarantee {
+            outcome,
+            protection: Protection {
+                value: outcome.valuation().value,
+                weight,
+            },
+        }
     }
 }

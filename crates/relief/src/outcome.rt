@@ -14,6 +14,7 @@ pub enum Outcome {
 
 impl Outcome {
     // What it is worth and where the rest went; nothing of either where it is left out.
+    #[tactic(auto, unfolding(crate::specs::Outcomes::outcome_valuation))]
     pub fn valuation(self) -> Valuation
         ensures { result ≡ outcome_valuation self }
     {
@@ -24,6 +25,7 @@ impl Outcome {
     }
 
     // The number of its ground; 0 where it is valued.
+    #[tactic(auto, unfolding(crate::specs::Outcomes::outcome_ground))]
     pub fn ground_number(self) -> u64
         ensures { result ≡ outcome_ground self }
     {
@@ -34,6 +36,7 @@ impl Outcome {
     }
 
     // The amount that is left out; 0 where it is valued.
+    #[tactic(auto, unfolding(crate::specs::Outcomes::outcome_left_out))]
     pub fn left_out(self) -> u64
         ensures { result ≡ outcome_left_out self }
     {

@@ -1,35 +1,28 @@
 // Portions joined to the guarantees' reports.
-ghost use mathlib.Core.List.{zip_with, ◌++◌};
-ghost use Rattle.std.specs.Prelude.{◌≡◌, ◌≤◌, drop, replicate, take};
+ghost use mathlib.Core.List.{zip_with};
+ghost use Rattle.std.specs.Prelude.{◌≡◌, ◌≤◌, length};
+ghost use Rattle.base.specs.Places.{in_places};
+ghost use Rattle.deal.specs.Lists.{list_limit};
 ghost use Rattle.relief.specs.Report.{no_guarantee};
 ghost use Rattle.relief.specs.Portions.{covering};
 
 use crate::guarantee::GuaranteeReport;
-use crate::outcome::Outcome;
 use deal::deal::Deal;
-use valuation::protection::Valuation;
 
-// The reports with their portions.
+// The reports with their portions, in order of adding.
 pub fn with_portions(
-    values: [GuaranteeReport; Deal::GUARANTEE_LIMIT],
-    portions: [u64; Deal::GUARANTEE_LIMIT],
-    count: usize,
+    values: &[GuaranteeReport],
+    portions: &[u64],
 ) -> [GuaranteeReport; Deal::GUARANTEE_LIMIT]
-    requires { count ≤ 16 }
-    ensures { result ≡ zip_with covering (take count values) (take count portions) ++ drop count (replicate 16 no_guarantee) }
+    requires { (length values.now ≡ length portions.now) × (length values.now ≤ 16) }
+    ensures { result ≡ in_places list_limit no_guarantee (zip_with covering values.now portions.now) }
 {
-    let none = GuaranteeReport {
-        outcome: Outcome::Valued(Valuation::NONE),
-        portion: 0,
-    };
-    let mut reports = [none; Deal::GUARANTEE_LIMIT];
-    let mut i: usize = 0;
-    while i < count {
-        let value = values[i];
-        let outcome = value.outcome;
-        let portion = portions[i];
-        reports[i] = GuaranteeReport { outcome, portion };
-        i += 1;
+    let mut reports = [GuaranteeReport::NONE; Deal::GUARANTEE_LIMIT];
+    for (i, value) in values.iter().enumerate() {
+        reports[i] = GuaranteeReport {
+            outcome: value.outcome,
+            portion: portions[i],
+        };
     }
     reports
 }

@@ -11,8 +11,7 @@ use Rattle.result.specs.List.{list_text, list_written, number_lines}
 use Rattle.result.specs.Numbers.{digit_text, number_text}
 use Rattle.result.proofs.NumberLines.{list_written_lem}
 use Rattle.mail.specs.Mail.{altered_lines, repaired}
-use Rattle.mail.specs.Reply.{RepairOutcome, buffer_after, numbers_after, repair_reply, unless_refused}
-use Rattle.mail.specs.declared.RepairReply.{RepairReply}
+use Rattle.mail.specs.Reply.{RepairOutcome, RepairReply, buffer_after, numbers_after, repair_reply, unless_refused}
 use Rattle.mail.proofs.Again.{none_listed, repaired_twice}
 use Rattle.mail.proofs.Kept.{no_longer}
 use Rattle.mail.proofs.Refusals.{lines_inside, only_too_long}
@@ -32,6 +31,13 @@ module _ (book buffer list buffer' list' : List ℕ) (reply : RepairReply) (r : 
   unfolding notice_written repair_reply numbers_after
   all_noticed =
       rw (r.replied, r.numbered, room, long) (list_written_lem (refusal_of book) 1376285 (altered_numbers book) _ (omega (arith, lines_inside book book_limit book_limit)))
+
+  pub notice_whole : (notice notice' : List ℕ) (n : ℕ) → length notice ≡ 1376285
+      → (let text = list_written reply.refusal reply.lines list' (length notice) in (n ≡ length text) × (notice' ≡ overwrite text notice))
+      → (n ≡ length (notice_written book)) × (notice' ≡ overwrite (notice_written book) notice)
+  notice_whole notice notice' n e w =
+      let text : list_written reply.refusal reply.lines list' (length notice) ≡ notice_written book = ap (list_written reply.refusal reply.lines list') e ∙ all_noticed in
+      (w.0 ∙ ap length text, w.1 ∙ ap (λ t. overwrite t notice) text)
 
 -- a text at the front of a buffer is a part of it
 inside : (n : ℕ) (text before after : List ℕ) → n ≡ length text → after ≡ overwrite text before → n ≤ length after

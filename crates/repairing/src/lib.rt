@@ -9,7 +9,7 @@ ghost use Rattle.repairing.specs.Repairing.{book_written, notice_written};
 use mail::repair_book;
 use result::list::write_list;
 
-#[derive(Clone, Copy)]
+#[derive(Clone, Copy, Debug, PartialEq, Eq)]
 pub struct Lengths {
     // Of the repaired book.
     pub book: usize,
@@ -31,10 +31,14 @@ pub fn respond(
         (result.notice ≡ length text) × (notice.new ≡ text ++ drop (length text) notice.old) }
     ensures list_after { list.new ≡ numbers_after book.now 65536 list.old }
 {
-    let reply = repair_book(book, buffer, list);
-    let notice_length = write_list(reply.refusal, reply.lines, list, notice);
-    Lengths {
-        book: reply.bytes,
-        notice: notice_length,
+    match repair_book(book, buffer, list) {
+        Ok(repaired) => Lengths {
+            book: repaired.bytes,
+            notice: write_list(0, repaired.lines, list, notice),
+        },
+        Err(refusal) => Lengths {
+            book: 0,
+            notice: write_list(refusal.number(), 0, list, notice),
+        },
     }
 }

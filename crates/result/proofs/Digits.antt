@@ -1,6 +1,7 @@
 -- The digits of a number, one by one from the last. Assumes nothing.
-use Prim.Native.Nat.{ℕ, zero, suc, ◌+◌, ◌/◌, ◌%◌, ◌≤◌, ◌<◌}
-use mathlib.Core.Path.{◌≡◌, refl}
+use Prim.Native.Nat.{ℕ, zero, suc, ◌+◌, ◌*◌, ◌/◌, ◌%◌, ◌^◌, ◌≤◌, ◌<◌, max}
+use mathlib.Core.Path.{◌≡◌, refl, sym}
+use native.Mathlib.Nat.{pow-suc, one-le-pow}
 use mathlib.Core.List.{List, [], ◌∷◌, ◌++◌}
 use borrow.Author.Tests.{lt-ltb, le-ltb, ltb-true, ltb-false}
 use native.Mathlib.Omega.{arith}
@@ -64,3 +65,20 @@ digits_last (suc k) n =
 pub number_last : (n : ℕ) → number_text n ≡ last_digits (length (number_text n)) n
 unfolding number_text
 number_last n = digits_last 20 n
+
+-- how many digits, by powers of ten
+digits_by_power : (k r n : ℕ) → r < k → 10 ^ r ≤ n → n < 10 * 10 ^ r → length (digit_text k n) ≡ r + 1
+digits_by_power zero r n l h j = absurd (omega arith)
+digits_by_power (suc k) zero n l h j = rw (digits_one k n j)
+digits_by_power (suc k) (suc r) n l h j =
+    let few : 10 ^ r ≤ n / 10 = omega (arith, pow-suc 10 r) in
+    let more : n / 10 < 10 * 10 ^ r = omega (arith, pow-suc 10 r) in
+    omega (arith, length_more k n (omega (arith, pow-suc 10 r, one-le-pow r 10 (omega arith))), digits_by_power k r (n / 10) (omega arith) few more)
+
+pub count_by_power : (r n : ℕ) → r < 20 → 10 ^ r ≤ max n 1 → max n 1 < 10 * 10 ^ r → r + 1 ≡ length (number_text n)
+unfolding number_text
+count_by_power zero zero l h j = rw (digits_one 19 0 (omega arith))
+count_by_power (suc r) zero l h j = absurd (omega (arith, pow-suc 10 r, one-le-pow r 10 (omega arith)))
+count_by_power r (suc n) l h j =
+    let m : max (suc n) 1 ≡ suc n = omega arith in
+    sym (digits_by_power 20 r (suc n) l (omega arith) (omega arith))

@@ -4,3 +4,6 @@ pub mod Lent
 pub mod LineByLine
 pub mod Lines
 pub mod NumberLines
+pub mod PartDigits
+pub mod WrittenList
+pub mod WrittenResult

@@ -18,7 +18,7 @@ use rows::put_rows;
 // The longest line of a deal: four numbers of 20 digits with a byte behind each.
 const LONGEST_ROW: usize = 84;
 
-// The text of a book's result, from the front of a lent buffer, and its length.
+// The text of a book's result, from the front of a lent buffer, and its length. The refusal is a number, as replies send it; any is written.
 pub fn write_result(refusal: u64, deals: usize, results: &[u64], out: &mut [u8]) -> usize
     ensures { let text = written refusal deals results.now (length out.old) in
         (result ≡ length text) × (out.new ≡ text ++ drop (length text) out.old) }

@@ -16,15 +16,14 @@ fn put_numbers(out: &mut [u8], at: usize, numbers: &[u64], count: usize) -> usiz
     ensures { Placed at (number_lines count numbers.now) out.old out.new result }
 {
     let mut place = at;
-    let mut i: usize = 0;
-    while i < count {
-        place = put_field(out, place, numbers[i], LINE_FEED);
-        i += 1;
+    for number in &numbers[..count] {
+        place = put_field(out, place, *number, LINE_FEED);
     }
     place
 }
 
-// The text of a list's numbers, one a line, or of a refusal, from the front of a lent buffer, and its length.
+// The text of a list's numbers, one a line, or of a refusal, from the front of a lent buffer, and its length. The refusal is a number, as replies
+// send it; any is written.
 pub fn write_list(refusal: u64, count: usize, numbers: &[u64], out: &mut [u8]) -> usize
     ensures { let text = list_written refusal count numbers.now (length out.old) in
         (result ≡ length text) × (out.new ≡ text ++ drop (length text) out.old) }

@@ -7,25 +7,18 @@ ghost use Rattle.base.specs.Writing.{Placed};
 fn digit_count(n: u64) -> usize
     ensures { result ≡ length (number_text n) }
 {
-    let mut rest = n;
-    let mut count: usize = 1;
-    while rest >= 10 {
-        rest /= 10;
-        count += 1;
-    }
-    count
+    n.max(1).ilog10() as usize + 1
 }
 
-// The digits are written from the last one to the first.
+// The digits are written from the last one to the first. By hand: `write!` wants a writer and a formatter, and here each digit is stored once.
+#[tactic(auto, using(crate::proofs::Digits::number_short))]
 pub fn put_number(out: &mut [u8], at: usize, n: u64) -> usize
     requires { at + 20 ≤ length out.old }
     ensures { Placed at (number_text n) out.old out.new result }
 {
     let end = at + digit_count(n);
-    let mut place = end;
     let mut rest = n;
-    while at < place {
-        place -= 1;
+    for place in (at..end).rev() {
         out[place] = b'0' + (rest % 10) as u8;
         rest /= 10;
     }

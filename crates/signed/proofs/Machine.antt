@@ -1,8 +1,7 @@
 -- Signed numbers on the machine. A signed local holds bits, which an operation reads by `to_z w64` and writes by `of_z w64`. Assumes nothing.
 use Prim.Native.Nat.{ℕ, ◌+◌, ◌*◌, ◌<◌, ◌^◌}
 use mathlib.Core.Path.{◌≡◌, refl, sym, ap, subst, ◌∙◌}
-use mathlib.Core.Bool.{true, false}
-use native.Mathlib.Nat.{not-suc-le-zero}
+use mathlib.Core.Bool.{false}
 use native.Mathlib.Omega.{arith}
 use lib.Dec.{T}
 use lib.IntN.{ℤ, pos, negsuc, nat_abs, ◌+ℤ◌, ◌-ℤ◌, ◌*ℤ◌}
@@ -10,7 +9,6 @@ use lib.Signed.{lt_z, non_neg}
 use mir.Syntax.{w64}
 use mir.Val.{SFits, Fits, to_z, of_z}
 use mir.Facts as facts
-use borrow.Author.Tests.{ltb-true}
 use Rattle.base.proofs.Choice.{never}
 use Rattle.signed.specs.Signed.{◌less◌}
 use Rattle.signed.proofs.Less.{less_fits, less_add, less_sub, less_mul}
@@ -40,20 +38,12 @@ subtracted x y a b c d e f = ap (λ z. z -ℤ y) e ∙ ap (λ z. (a less b) -ℤ
 pub times : (x : ℤ) (a b m : ℕ) → x ≡ a less b → x *ℤ pos m ≡ (a * m) less (b * m)
 times x a b m e = ap (λ z. z *ℤ pos m) e ∙ less_mul a b m
 
--- a number below 0, negated; one that is not
-pub negated : (z : ℤ) → lt_z z (pos 0) ≡ true → pos 0 -ℤ z ≡ pos (nat_abs z)
-negated (pos n) t = absurd (not-suc-le-zero (ltb-true n 0 t))
-negated (negsuc n) t = ap pos (omega arith)
-
+-- a number that is not below 0
 pub not_negative : (z : ℤ) → lt_z z (pos 0) ≡ false → z ≡ pos (nat_abs z)
 not_negative (pos n) t = refl
 not_negative (negsuc n) t = absurd (never refl t)
 
--- a cast to unsigned, of a number that is not below 0
-pub casts : (z : ℤ) (n : ℕ) → z ≡ pos n → n < 2 ^ 63 → T (non_neg z) × Fits w64 (nat_abs z)
-casts z n e h = subst (λ (y : ℤ). T (non_neg y) × Fits w64 (nat_abs y)) (sym e) (tt, record { fits = omega arith })
-
--- the same, of a number that was tested and whose range is all that is known
+-- a cast to unsigned, of a number that was tested and whose range is all that is known
 pub tested_casts : (z : ℤ) → SFits w64 z → lt_z z (pos 0) ≡ false → T (non_neg z) × Fits w64 (nat_abs z)
 tested_casts (pos n) f t = (tt, record { fits = omega (arith, f.sfits) })
 tested_casts (negsuc n) f t = absurd (never refl t)

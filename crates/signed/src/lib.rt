@@ -12,10 +12,7 @@ pub fn absolute(x: i64) -> u64
     requires { nat_abs x ≤ 4000000000000000000 }
     ensures { result ≡ nat_abs x }
 {
-    if x < 0 {
-        return (-x) as u64;
-    }
-    x as u64
+    x.unsigned_abs()
 }
 
 // Millionths as a whole number, rounded up. Division drops the fraction, and below zero that is up.

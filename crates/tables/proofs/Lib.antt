@@ -1,11 +1,9 @@
 pub mod Printed
 pub mod Printed2023
-pub mod Equity
 pub mod Listed
 pub mod ByStep
 pub mod Bands
 pub mod Bands2023
-pub mod Floor
 pub mod TableTest
 pub mod Laws
 pub mod Versions

@@ -5,4 +5,5 @@ pub mod Eligibility
 pub mod Haircuts
 pub mod Weights
 pub mod Version2023
+pub mod Shared
 pub mod Table

@@ -1,4 +1,5 @@
 // The classes of counterparties and of protection providers (01: What a deal holds).
+// By number and no enum: a record is read and written unchanged, whatever number stands there.
 pub const SOVEREIGN: u64 = 1;
 
 // A provider of this class may be a securities firm.

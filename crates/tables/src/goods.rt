@@ -1,7 +1,12 @@
 // The types of goods that are lent or taken as collateral (01: What a deal holds).
+// By number and no enum: a record is read and written unchanged, whatever number stands there.
 pub const CASH: u64 = 1;
 
 pub const SOVEREIGN_DEBT: u64 = 2;
+
+pub const OTHER_DEBT: u64 = 3;
+
+pub const BANK_DEBT: u64 = 4;
 
 pub const SECURITISATION: u64 = 5;
 

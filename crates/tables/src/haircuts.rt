@@ -1,113 +1,64 @@
-// The standard supervisory haircuts of 2019, before scaling to a holding period.
+// The standard supervisory haircuts, before scaling to a holding period: what the versions share. The rows of steps and the columns of issuers are
+// those of 2019 in each.
 ghost use Rattle.std.specs.Prelude.{◌≡◌, ◌<◌};
-ghost use Rattle.tables.specs.Haircuts.{row_of, band_of, issuer_column, debt_haircut, haircut as haircut_of, lent_haircut};
+ghost use Rattle.tables.specs.Haircuts.{row_of, issuer_column};
+ghost use Rattle.tables.specs.Shared.{haircut_by, lent_haircut_by};
 
 use crate::eligibility::eligible;
 use crate::goods::{
     CASH, GOLD, MAIN_INDEX_EQUITY, OTHER_LISTED_EQUITY, SECURITISATION, SOVEREIGN_DEBT,
 };
-use crate::widths::wide_haircut;
+use crate::version::Version;
 
 // Where an item and the deal are in different currencies.
 pub const CURRENCY: u64 = 80_000;
 
-// Debt, by row of steps (1; 2 and 3; 4), band of residual life, and column of issuers: sovereign, other, securitisation.
-// At step 4 sovereign debt alone is eligible.
-const DEBT: [[[u32; 3]; 3]; 3] = [
-    [
-        [5_000, 10_000, 20_000],
-        [20_000, 40_000, 80_000],
-        [40_000, 80_000, 160_000],
-    ],
-    [
-        [10_000, 20_000, 40_000],
-        [30_000, 60_000, 120_000],
-        [60_000, 120_000, 240_000],
-    ],
-    [
-        [150_000, 250_000, 250_000],
-        [150_000, 250_000, 250_000],
-        [150_000, 250_000, 250_000],
-    ],
-];
-
-const MAIN_INDEX_OR_GOLD: u64 = 150_000;
-
-const OTHER_LISTED: u64 = 250_000;
-
-const LENT_NOT_ELIGIBLE: u64 = 250_000;
-
+// The row of a table of debt.
+#[tactic(auto, unfolding(crate::specs::Haircuts::row_of))]
 pub fn row(step: u64) -> usize
-    ensures { (result ≡ row_of step) × (result < 3) }
+    ensures row { result ≡ row_of step }
+    ensures within_rows { result < 3 }
 {
-    if step == 1 {
-        return 0;
+    match step {
+        1 => 0,
+        4 => 2,
+        _ => 1,
     }
-    if step == 4 {
-        return 2;
-    }
-    1
 }
 
-fn band(life: u64) -> usize
-    ensures { (result ≡ band_of life) × (result < 3) }
-{
-    if life <= 360 {
-        return 0;
-    }
-    if life <= 1_800 {
-        return 1;
-    }
-    2
-}
-
+// The column.
+#[tactic(auto, unfolding(crate::specs::Haircuts::issuer_column))]
 pub fn column(goods: u64) -> usize
-    ensures { (result ≡ issuer_column goods) × (result < 3) }
+    ensures column { result ≡ issuer_column goods }
+    ensures within_columns { result < 3 }
 {
-    if goods == SOVEREIGN_DEBT {
-        return 0;
+    match goods {
+        SOVEREIGN_DEBT => 0,
+        SECURITISATION => 2,
+        _ => 1,
     }
-    if goods == SECURITISATION {
-        return 2;
-    }
-    1
-}
-
-fn debt_haircut(goods: u64, step: u64, life: u64) -> u64
-    ensures { result ≡ debt_haircut goods step life }
-{
-    let r = row(step);
-    let b = band(life);
-    let c = column(goods);
-    let figure = DEBT[r][b][c];
-    wide_haircut(figure)
 }
 
 // The haircut of eligible collateral.
-pub fn haircut(goods: u64, step: u64, life: u64) -> u64
-    ensures { result ≡ haircut_of goods step life }
+#[tactic(auto, unfolding(crate::specs::Shared::haircut_by))]
+pub fn haircut<V: Version>(goods: u64, step: u64, life: u64) -> u64
+    ensures { result ≡ haircut_by V.MAIN_INDEX_OR_GOLD V.OTHER_LISTED V.debt_haircut goods step life }
 {
-    if goods == CASH {
-        return 0;
+    match goods {
+        CASH => 0,
+        MAIN_INDEX_EQUITY | GOLD => V::MAIN_INDEX_OR_GOLD,
+        OTHER_LISTED_EQUITY => V::OTHER_LISTED,
+        _ => V::debt_haircut(goods, step, life),
     }
-    if goods == MAIN_INDEX_EQUITY {
-        return MAIN_INDEX_OR_GOLD;
-    }
-    if goods == GOLD {
-        return MAIN_INDEX_OR_GOLD;
-    }
-    if goods == OTHER_LISTED_EQUITY {
-        return OTHER_LISTED;
-    }
-    debt_haircut(goods, step, life)
 }
 
 // The haircut of goods lent. They have no listing condition, so unrated bank debt is never eligible here.
-pub fn lent_haircut(goods: u64, step: u64, life: u64) -> u64
-    ensures { result ≡ lent_haircut goods step life }
+#[tactic(auto, unfolding(crate::specs::Shared::lent_haircut_by))]
+pub fn lent_haircut<V: Version>(goods: u64, step: u64, life: u64) -> u64
+    ensures { result ≡ lent_haircut_by V.LENT_NOT_ELIGIBLE V.MAIN_INDEX_OR_GOLD V.OTHER_LISTED V.debt_haircut goods step life }
 {
     if eligible(goods, step, 0) {
-        return haircut(goods, step, life);
+        return haircut::<V>(goods, step, life);
     }
-    LENT_NOT_ELIGIBLE
+    V::LENT_NOT_ELIGIBLE
 }

@@ -9,6 +9,7 @@ pub mod eligibility;
 pub mod goods;
 pub mod haircuts;
 pub mod kinds;
+pub mod version;
+pub mod version_2019;
 pub mod version_2023;
 pub mod weights;
-pub mod widths;

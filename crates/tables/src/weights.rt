@@ -1,40 +1,29 @@
-// The risk weights of 2019 in percent, with the sovereign floor of the editions that have it.
-ghost use Rattle.std.specs.Prelude.{◌≡◌, ◌≤◌, max};
-ghost use Rattle.tables.specs.Classes.{sovereign};
-ghost use Rattle.tables.specs.Weights.{counterparty_weight, floor_for_counterparty, floor_for_provider, has_floor, own_weight, provider_weight, table_weight};
+// The risk weights in percent: what the versions share, and the sovereign floor of the editions that have it.
+ghost use Rattle.std.specs.Prelude.{◌≡◌, ◌≤◌};
+ghost use Rattle.tables.specs.Shared.{own_weight_by};
+ghost use Rattle.tables.specs.Weights.{at_least_sovereign, floor_for_counterparty, floor_for_provider, has_floor};
 
 use crate::classes::{BANK, CORPORATE, RETAIL, SOVEREIGN};
-use crate::widths::wide_weight;
+use crate::version::Version;
+use crate::version_2019::Version2019;
 
-pub const RETAIL_WEIGHT: u64 = 75;
-
-// By class (sovereign; bank; corporate and other entity) and step, the unrated step 0 first.
-const WEIGHTS: [[u8; 7]; 3] = [
-    [100, 0, 20, 50, 100, 100, 150],
-    [50, 20, 50, 50, 100, 100, 150],
-    [100, 20, 50, 100, 100, 150, 150],
-];
-
-fn table_weight(class: u64, step: u64) -> u64
-    requires { (1 ≤ class) × ((class ≤ 3) × (step ≤ 6)) }
-    ensures { result ≡ table_weight class step }
-{
-    let weight = WEIGHTS[(class - 1) as usize][step as usize];
-    wide_weight(weight)
-}
+const RETAIL_WEIGHT: u64 = 75;
 
 // A counterparty's, by its own step.
-fn own_weight(class: u64, step: u64) -> u64
-    requires { (1 ≤ class) × ((class ≤ 4) × (step ≤ 6)) }
-    ensures { result ≡ own_weight class step }
+#[tactic(auto, unfolding(crate::specs::Shared::own_weight_by))]
+fn own_weight<V: Version>(class: u64, step: u64) -> u64
+    requires class_range { (1 ≤ class) × (class ≤ 4) }
+    requires step_range { step ≤ 6 }
+    ensures { result ≡ own_weight_by V.table_weight class step }
 {
     if class == RETAIL {
         return RETAIL_WEIGHT;
     }
-    table_weight(class, step)
+    V::table_weight(class, step)
 }
 
 // Whether the tables of an edition have the floor.
+#[tactic(auto, unfolding(crate::specs::Weights::has_floor))]
 fn has_floor(edition: u64) -> bool
     ensures { result ≡ has_floor edition }
 {
@@ -42,51 +31,54 @@ fn has_floor(edition: u64) -> bool
 }
 
 // Whether the floor is for a counterparty: an unrated bank or corporate.
-pub fn floor_for_counterparty(edition: u64, class: u64, step: u64) -> bool
+fn floor_for_counterparty(edition: u64, class: u64, step: u64) -> bool
     ensures { result ≡ floor_for_counterparty edition class step }
 {
-    has_floor(edition) & (step == 0) & ((class == BANK) | (class == CORPORATE))
+    has_floor(edition) && step == 0 && (class == BANK || class == CORPORATE)
 }
 
 // Whether it is for a provider: an unrated bank.
-pub fn floor_for_provider(edition: u64, class: u64, step: u64) -> bool
+fn floor_for_provider(edition: u64, class: u64, step: u64) -> bool
     ensures { result ≡ floor_for_provider edition class step }
 {
-    has_floor(edition) & (step == 0) & (class == BANK)
+    has_floor(edition) && step == 0 && class == BANK
 }
 
-// The larger of a party's own weight and its sovereign's.
-pub fn at_least_sovereign(own: u64, sovereign_step: u64) -> u64
+// Where the floor applies, the larger of a party's own weight and its sovereign's, which is the same in every version.
+#[tactic(auto, unfolding(crate::specs::Weights::at_least_sovereign))]
+fn at_least_sovereign(applies: bool, own: u64, sovereign_step: u64) -> u64
     requires { sovereign_step ≤ 6 }
-    ensures { result ≡ max own (table_weight sovereign sovereign_step) }
+    ensures { result ≡ at_least_sovereign applies own sovereign_step }
 {
-    let floor = table_weight(SOVEREIGN, sovereign_step);
-    if floor > own {
-        return floor;
+    if applies {
+        return own.max(Version2019::table_weight(SOVEREIGN, sovereign_step));
     }
     own
 }
 
 // The weight of a protection provider.
-pub fn provider_weight(edition: u64, class: u64, step: u64, sovereign_step: u64) -> u64
-    requires { (1 ≤ class) × ((class ≤ 3) × ((step ≤ 6) × (sovereign_step ≤ 6))) }
-    ensures { result ≡ provider_weight edition class step sovereign_step }
+pub fn provider_weight<V: Version>(edition: u64, class: u64, step: u64, sovereign_step: u64) -> u64
+    requires class_range { (1 ≤ class) × (class ≤ 3) }
+    requires step_range { step ≤ 6 }
+    requires sovereign_range { sovereign_step ≤ 6 }
+    ensures { result ≡ at_least_sovereign (floor_for_provider edition class step) (V.table_weight class step) sovereign_step }
 {
-    let own = table_weight(class, step);
-    if floor_for_provider(edition, class, step) {
-        return at_least_sovereign(own, sovereign_step);
-    }
-    own
+    let applies = floor_for_provider(edition, class, step);
+    at_least_sovereign(applies, V::table_weight(class, step), sovereign_step)
 }
 
 // The weight of a deal's counterparty.
-pub fn counterparty_weight(edition: u64, class: u64, step: u64, sovereign_step: u64) -> u64
-    requires { (1 ≤ class) × ((class ≤ 4) × ((step ≤ 6) × (sovereign_step ≤ 6))) }
-    ensures { result ≡ counterparty_weight edition class step sovereign_step }
+pub fn counterparty_weight<V: Version>(
+    edition: u64,
+    class: u64,
+    step: u64,
+    sovereign_step: u64,
+) -> u64
+    requires class_range { (1 ≤ class) × (class ≤ 4) }
+    requires step_range { step ≤ 6 }
+    requires sovereign_range { sovereign_step ≤ 6 }
+    ensures { result ≡ at_least_sovereign (floor_for_counterparty edition class step) (own_weight_by V.table_weight class step) sovereign_step }
 {
-    let own = own_weight(class, step);
-    if floor_for_counterparty(edition, class, step) {
-        return at_least_sovereign(own, sovereign_step);
-    }
-    own
+    let applies = floor_for_counterparty(edition, class, step);
+    at_least_sovereign(applies, own_weight::<V>(class, step), sovereign_step)
 }

@@ -1,14 +1,16 @@
 -- Two texts are the same exactly if they are equal. Assumes nothing.
 use Prim.Native.Nat.{ℕ}
-use mathlib.Core.Path.{◌≡◌, refl, ap}
-use mathlib.Core.Bool.{Bool, true, false}
+use mathlib.Core.Path.{◌≡◌, refl}
+use mathlib.Core.Bool.{true}
 use mathlib.Core.List.{List, [], ◌∷◌}
-use native.Mathlib.Omega.{arith}
 use borrow.Author.Tests.{eqb-true, eq-eqb}
 use lib.Dec.{eqb}
 use lib.ListN.{length}
 use Rattle.base.proofs.Choice.{never}
 use Rattle.base.proofs.Every.{both}
+use lib.Pointwise.{pointwise}
+use Rattle.base.proofs.Compare.{eqb_turned}
+use Rattle.std.specs.Prelude.{nat_eq, take}
 use Rattle.text.specs.Text.{same_bytes, starts_with}
 
 pub same_equal : (a b : List ℕ) → same_bytes a b ≡ true → a ≡ b
@@ -28,17 +30,16 @@ itself_same (x ∷ xs) = rw (eq-eqb x x refl, itself_same xs)
 pub equal_same : (a b : List ℕ) → a ≡ b → same_bytes a b ≡ true
 equal_same a b e = rw e (itself_same b)
 
--- as the program finds it
-pub same_starts : (a b : List ℕ) → length a ≡ length b → same_bytes a b ≡ starts_with b a
-unfolding same_bytes starts_with
-same_starts [] [] h = refl
-same_starts [] (y ∷ ys) h = absurd (omega arith)
-same_starts (x ∷ xs) [] h = absurd (omega arith)
-same_starts (x ∷ xs) (y ∷ ys) h = rw (same_starts xs ys (omega arith))
+-- as the library compares texts
+pub same_told : (a b : List ℕ) → same_bytes a b ≡ pointwise nat_eq a b
+unfolding same_bytes
+same_told [] [] = refl
+same_told [] (y ∷ ys) = refl
+same_told (x ∷ xs) [] = refl
+same_told (x ∷ xs) (y ∷ ys) = rw (same_told xs ys)
 
-pub other_length : (a b : List ℕ) → (length a ≡ length b → ⊥) → same_bytes a b ≡ false
-other_length a b h = go (same_bytes a b) refl
-  where
-    go : (t : Bool) → same_bytes a b ≡ t → same_bytes a b ≡ false
-    go true e = absurd (h (ap length (same_equal a b e)))
-    go false e = e
+pub starts_told : (prefix text : List ℕ) → starts_with prefix text ≡ pointwise nat_eq prefix (take (length prefix) text)
+unfolding starts_with
+starts_told [] text = refl
+starts_told (p ∷ ps) [] = refl
+starts_told (p ∷ ps) (b ∷ bs) = rw (eqb_turned b p, starts_told ps bs)

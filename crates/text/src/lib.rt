@@ -2,8 +2,9 @@
 
 #![tactic(auto)]
 
-ghost use Rattle.std.specs.Prelude.{◌≡◌, ◌+◌, ◌≤◌, drop, length};
-ghost use Rattle.text.specs.Text.{first_line, same_bytes, starts_with};
+ghost use Rattle.std.specs.Prelude.{◌≡◌, ◌+◌, ◌≤◌, ◌==◌, drop, length};
+ghost use Rattle.std.specs.List.{position};
+ghost use Rattle.text.specs.Text.{first_line, line_feed, same_bytes, starts_with};
 ghost use Rattle.text.specs.NoFeeds.{no_feeds};
 ghost use Rattle.text.specs.WithinLine.{Near};
 
@@ -15,33 +16,23 @@ pub const LINE_FEED: u8 = 10;
 pub const BOOK_LIMIT: usize = 65_536;
 
 // Whether a text starts with these bytes.
+#[tactic(auto, using(crate::proofs::Equal::starts_told))]
 pub fn starts_with(text: &[u8], prefix: &[u8]) -> bool
     ensures { result ≡ starts_with prefix.now text.now }
 {
-    let mut i: usize = 0;
-    while i < prefix.len() {
-        if i >= text.len() {
-            return false;
-        }
-        if text[i] != prefix[i] {
-            return false;
-        }
-        i += 1;
-    }
-    true
+    text.starts_with(prefix)
 }
 
 // Whether two texts are the same, byte for byte.
+#[tactic(auto, using(crate::proofs::Equal::same_told))]
 pub fn same(first: &[u8], second: &[u8]) -> bool
     ensures { result ≡ same_bytes first.now second.now }
 {
-    if first.len() != second.len() {
-        return false;
-    }
-    starts_with(first, second)
+    first == second
 }
 
 // Whether none of the eight bytes from here on is a line feed. Without branches, so that they are compared at once.
+#[tactic(auto, unfolding(crate::specs::NoFeeds::no_feeds))]
 fn no_feed_in_eight(text: &[u8], at: usize) -> bool
     requires { at + 8 ≤ length text.now }
     ensures { result ≡ no_feeds 8 text.now at }
@@ -56,7 +47,7 @@ fn no_feed_in_eight(text: &[u8], at: usize) -> bool
         & (text[at + 7] != LINE_FEED)
 }
 
-// A place in the line that starts here, near its end: bytes are passed by eights.
+// A place in the line that starts here, near its end. By an index: eight bytes are passed at once, for speed, and their place is the answer.
 fn near_end(text: &[u8], start: usize) -> usize
     requires { start ≤ length text.now }
     ensures { Near text.now start result }
@@ -71,17 +62,21 @@ fn near_end(text: &[u8], start: usize) -> usize
     at
 }
 
+// How many bytes stand in front of the first line feed, if there is one.
+fn before_feed(text: &[u8]) -> Option<usize>
+    ensures { result ≡ position (λ byte. byte == line_feed) text.now }
+{
+    text.iter().position(|byte| *byte == LINE_FEED)
+}
+
 // Where the line that starts here ends: behind its line feed, or else where the text ends.
 pub fn line_end(text: &[u8], start: usize) -> usize
     requires { start ≤ length text.now }
     ensures { result ≡ start + length (first_line (drop start text.now)) }
 {
-    let mut at = near_end(text, start);
-    while at < text.len() {
-        if text[at] == LINE_FEED {
-            return at + 1;
-        }
-        at += 1;
+    let near = near_end(text, start);
+    match before_feed(&text[near..]) {
+        Some(before) => near + before + 1,
+        None => text.len(),
     }
-    at
 }

@@ -3,8 +3,6 @@ ghost use Rattle.std.specs.Prelude.{◌≡◌, ◌≤◌};
 ghost use Rattle.valuation.specs.Protection.{keep_share, volatility_adjusted_value as volatility_adjusted_value_of, maturity_adjusted as maturity_adjusted_of};
 ghost use Rattle.valuation.specs.Valuation.{valuation_of};
 
-use base::smaller;
-
 const WHOLE: u64 = 1_000_000;
 
 // Days: three months, and five years.
@@ -13,16 +11,15 @@ const SHORTEST: u64 = 90;
 const LONGEST: u64 = 1_800;
 
 // What the haircuts leave of the whole.
+#[tactic(auto, unfolding(crate::specs::Protection::keep_share))]
 fn keep_share(haircut: u64) -> u64
     ensures { result ≡ keep_share haircut }
 {
-    if haircut < WHOLE {
-        return WHOLE - haircut;
-    }
-    0
+    WHOLE.saturating_sub(haircut)
 }
 
 // The amount after haircuts, rounded down.
+#[tactic(auto, unfolding(crate::specs::Protection::volatility_adjusted_value, crate::specs::Protection::keep_share))]
 fn volatility_adjusted_value(amount: u64, haircut: u64) -> u64
     requires { amount ≤ 1000000000000 }
     ensures { result ≡ volatility_adjusted_value_of amount haircut }
@@ -32,6 +29,7 @@ fn volatility_adjusted_value(amount: u64, haircut: u64) -> u64
 }
 
 // The value where cover ends before the deal's term, rounded down again; unchanged where it does not.
+#[tactic(auto, unfolding(crate::specs::Protection::maturity_adjusted, crate::specs::Protection::mismatched))]
 fn maturity_adjusted(value: u64, cover: u64, term: u64) -> u64
     requires { value ≤ 1000000000000 }
     ensures { result ≡ maturity_adjusted_of value cover term }
@@ -42,8 +40,8 @@ fn maturity_adjusted(value: u64, cover: u64, term: u64) -> u64
     if cover <= SHORTEST {
         return 0;
     }
-    let deal_term = smaller(term, LONGEST);
-    let cover_term = smaller(deal_term, cover);
+    let deal_term = term.min(LONGEST);
+    let cover_term = deal_term.min(cover);
     value * (cover_term - SHORTEST) / (deal_term - SHORTEST)
 }
 
@@ -67,8 +65,10 @@ impl Valuation {
     };
 
     // Of an item that no ground leaves out, and of whose amount so much is not cut.
+    #[tactic(auto, using(crate::proofs::Values::adjusted_value_le, crate::proofs::Values::maturity_adjusted_le), unfolding(crate::specs::Valuation::valuation_of, crate::specs::Protection::recognised))]
     pub fn of(amount: u64, uncut: u64, haircut: u64, cover: u64, term: u64) -> Valuation
-        requires { (amount ≤ 1000000000000) × (uncut ≤ amount) }
+        requires amount_bound { amount ≤ 1000000000000 }
+        requires uncut_le_amount { uncut ≤ amount }
         ensures { result ≡ valuation_of amount uncut haircut cover term }
     {
         let adjusted = volatility_adjusted_value(uncut, haircut);
