@@ -12,6 +12,7 @@ use tables::haircuts::CURRENCY;
 use tables::kinds::REPO_STYLE;
 
 // The time factor of the set's period: its minimum is that of repo-style transactions.
+#[tactic(auto, using(crate::proofs::HaircutBounds::repo_period, scaling::proofs::Periods::period_bound))]
 pub fn factor_of(terms: SetTerms) -> TimeFactor
     requires { (1 ≤ terms.interval) × (terms.interval ≤ 60) }
     ensures { result.period ≡ set_period terms }
