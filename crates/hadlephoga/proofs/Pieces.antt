@@ -46,13 +46,6 @@ module _ {A : Type 0} (f : List ℕ → A) (none : A) (width count places : ℕ)
       let here : x ≡ f (get_or (slices width count ns) i []) = e ∙ ap f (rw n (sym (piece_at width count ns i h))) in
       rw (filled, here) (fill_more f [] i (slices width count ns) (replicate places none) (omega (arith, h, length_slices width count ns)) (omega (arith, k, length-replicate places none)))
 
-  -- all of them
-  pub front_filled : (items : List A) (i : ℕ) → i ≡ count → Filled items i → take count items ≡ map f (slices width count ns)
-  front_filled items i e filled =
-      let slices_all = take_all count (slices width count ns) (omega (arith, length_slices width count ns)) in
-      let whole : items ≡ map f (slices width count ns) ++ drop count (replicate places none) = filled ∙ rw (e, slices_all) refl in
-      ap (take count) whole ∙ take_at (map f (slices width count ns)) _ count (rw length-map (length_slices width count ns))
-
 -- and every place
 pub all_filled : {A : Type 0} (f : List ℕ → A) (none : A) (width count : ℕ) (ns : List ℕ) (items : List A) (i : ℕ) → i ≡ count →
     Filled f none width count count ns items i → items ≡ map f (slices width count ns)
