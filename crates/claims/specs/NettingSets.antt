@@ -9,8 +9,8 @@
 -- entries for one nonzero security that disagree in type, step, life or currency; 16 received goods not eligible as collateral; 17 amounts of all positions sum
 -- above the amount limit.)"; L9, "A netting set names its table by that number, 2 or 3 (any other is refusal 2)"
 --
--- The contract of `netting::set::NettingSet::reply` asks nothing of the caller and says that the reply is `set_reply`. What follows is proved of that definition,
--- for every set whatever. That of `hadlephoga::hadlephoga_net_set` is over `netting_reply`: a set's numbers in their order are answered as the set (`sent_answered`
+-- The contract of `netting::set::NettingSet::reply` asks nothing of the caller and says that the numbers of its result (`reply_sent`) are `set_reply`. What follows
+-- is proved of that definition, for every set whatever. That of `hadlephoga::hadlephoga_net_set` is over `netting_reply`: a set's numbers in their order are answered as the set (`sent_answered`
 -- of that crate), and a list of any other length is 11 (`other_length`). What the tables of an edition weigh is in the claims SovereignFloor and Tables2023; lives
 -- go up to 100,000 days by L11.
 use Rattle.std.specs.Prelude.{ℕ, suc, ◌+◌, ◌*◌, ◌-◌, ◌≤◌, ◌<◌, min, ◌≡◌, Bool, true, false, not, ◌&&◌, ◌||◌, List, [], ◌∷◌, ◌++◌, map, ◌⊎◌, eqb, leb, get_or, length, replicate, take, if◌then◌else◌}
@@ -24,10 +24,9 @@ use Rattle.scaling.specs.Scaling.{IsScaled, scaled}
 use Rattle.netting.specs.Fields.{position_in, set_terms_in, zero_position}
 use Rattle.netting.specs.Positions.{position_refusal}
 use Rattle.netting.specs.Refusals.{set_refusal}
-use Rattle.netting.specs.Reply.{set_reply}
+use Rattle.netting.specs.Reply.{NettingReply, set_reply}
 use Rattle.netting.specs.Terms.{set_terms_refusal}
 use Rattle.netting.specs.declared.position.Position.{Position}
-use Rattle.netting.specs.Reply.{NettingReply}
 use Rattle.netting.specs.declared.set.NettingSet.{NettingSet}
 use Rattle.netting.specs.declared.terms.SetTerms.{SetTerms}
 use Rattle.netting_laws.specs.Betterments.{BetterSet, SetBetterments, SetNeverRaised, SetView, accepted_set, accepted_set_view, lent_alone, set_view_of, set_with}

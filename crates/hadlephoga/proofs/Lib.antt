@@ -1,6 +1,7 @@
 pub mod Examples
 pub mod Pieces
 pub mod Numbers
+pub mod Made
 pub mod Netted
 pub mod Operations
 pub mod Records

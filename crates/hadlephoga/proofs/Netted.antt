@@ -1,15 +1,26 @@
 -- The reply to a netting set on numbers, by whether none is missing or too many. Assumes nothing.
-use Prim.Native.Nat.{ℕ, ◌+◌, ◌*◌, ◌-◌, ◌<◌}
-use mathlib.Core.Path.{◌≡◌, ap, ◌∙◌}
-use mathlib.Core.List.{List}
+use Prim.Native.Nat.{ℕ, ◌+◌, ◌*◌, ◌-◌, ◌/◌, ◌%◌, ◌≤◌, ◌<◌}
+use mathlib.Core.Path.{◌≡◌, refl, sym, ap, ap₂, ◌∙◌}
+use mathlib.Core.Bool.{Bool, true, false}
+use mathlib.Core.List.{List, map}
+use Rattle.std.proofs.Common.{leb, Result, Ok, Err}
+use Rattle.std.specs.Result.{IsErrAnd}
 use native.Mathlib.Omega.{arith}
 use lib.ListN.{drop, length, length-drop, take}
 use lib.Seq.{take_all}
-use borrow.Author.Tests.{eq-eqb, ne_eqb}
+use borrow.Author.Tests.{eq-eqb, leb-false, leb-true, ne_eqb}
 use Rattle.base.proofs.Choice.{if_true, if_false}
-use Rattle.netting.specs.Fields.{set_terms_in}
-use Rattle.netting.specs.Reply.{refused_reply, reply_to}
-use Rattle.hadlephoga.specs.Netting.{netting_reply, position_count, positions_in, set_complete}
+use Rattle.netting.specs.Fields.{position_in, position_width, set_terms_in}
+use Rattle.netting.specs.Reply.{refused_reply, reply_to, set_refusal_number}
+use Rattle.netting.specs.declared.position.Position.{Position}
+use Rattle.netting.specs.declared.refusal.SetRefusal.{SetRefusal}
+use Rattle.netting.specs.declared.set.NettingAmounts.{NettingAmounts}
+use Rattle.netting.specs.declared.terms.SetTerms.{SetTerms}
+use Rattle.netting.proofs.Replies.{many_alike}
+use Rattle.hadlephoga.specs.Records.{slices}
+use Rattle.hadlephoga.specs.Netting.{netting_reply, numbers_refusal_number, numbers_sent, position_count, positions_in, set_complete}
+use Rattle.hadlephoga.specs.declared.sets.NumbersRefusal.{NumbersRefusal}
+use Rattle.hadlephoga.specs.declared.sets.NumbersRefusal.TheVariants.{Malformed, Set}
 
 module _ (ns : List ℕ) where
   pub reply_malformed : (length ns ≡ 6 + position_count ns * 7 → ⊥) → netting_reply ns ≡ refused_reply 11
@@ -29,3 +40,34 @@ module _ (ns : List ℕ) where
 
   pub behind_length : length (take (length ns - 6) (drop 6 ns)) ≡ length ns - 6
   behind_length = ap length behind_terms ∙ length-drop 6 ns
+
+-- the reply to the set that is read from what stands behind its own fields; of too many positions none matters
+pub netted : (ns rest : List ℕ) (t : SetTerms) (ps : List Position) → rest ≡ drop 6 ns → 6 ≤ length ns → length rest % 7 ≡ 0 → t ≡ set_terms_in ns →
+    (length rest / 7 ≤ 32 → take (length rest / 7) ps ≡ map position_in (slices position_width (length rest / 7) rest)) →
+    reply_to t (length rest / 7) (take (length rest / 7) ps) ≡ netting_reply ns
+unfolding position_count positions_in
+netted ns rest t ps e long whole same read =
+    alike (leb (length rest / 7) 32) refl
+    ∙ ap₂ (λ terms k. reply_to terms k (positions_in ns)) same count
+    ∙ sym (reply_complete ns (omega (arith, wide, count)))
+  where
+    wide : length rest ≡ length ns - 6
+    wide = ap length e ∙ length-drop 6 ns
+
+    count : length rest / 7 ≡ position_count ns
+    count = ap (λ (n : ℕ). n / 7) wide
+
+    alike : (b : Bool) → leb (length rest / 7) 32 ≡ b → reply_to t (length rest / 7) (take (length rest / 7) ps) ≡ reply_to t (length rest / 7) (positions_in ns)
+    alike true l = ap (reply_to t (length rest / 7)) (read (leb-true _ _ l) ∙ ap₂ (λ k ms. map position_in (slices position_width k ms)) count e)
+    alike false l = many_alike t (length rest / 7) _ (positions_in ns) (omega (arith, leb-false _ _ l))
+
+-- a set's refusal, where numbers are refused with it
+pub set_passed : (r : Result NettingAmounts NumbersRefusal) (refusal : SetRefusal) → IsErrAnd r (λ e. e ≡ Set refusal) → numbers_sent r ≡ refused_reply (set_refusal_number refusal)
+unfolding numbers_sent numbers_refusal_number
+set_passed (Ok x) refusal h = absurd h
+set_passed (Err e) refusal h = ap (λ f. refused_reply (numbers_refusal_number f)) h
+
+-- what is sent, worked out
+sent_malformed : numbers_sent (Err Malformed) ≡ record { refusal = 11; exposure = 0; rwa = 0 }
+unfolding numbers_sent numbers_refusal_number
+sent_malformed = refl

@@ -15,7 +15,7 @@ length_slices width zero ns = refl
 length_slices width (suc k) ns = ap suc (length_slices width k (drop width ns))
 
 -- the piece in a place
-piece_at : (width k : ℕ) (ns : List ℕ) (i : ℕ) → i < k → get_or (slices width k ns) i [] ≡ take width (drop (i * width) ns)
+pub piece_at : (width k : ℕ) (ns : List ℕ) (i : ℕ) → i < k → get_or (slices width k ns) i [] ≡ take width (drop (i * width) ns)
 unfolding slices
 piece_at width zero ns i h = absurd (not-suc-le-zero h)
 piece_at width (suc k) ns zero h = let e : 0 ≡ 0 * width = omega arith in ap (λ (n : ℕ). take width (drop n ns)) e
@@ -25,7 +25,7 @@ piece_at width (suc k) ns (suc i) h =
     ∙ ap (take width) (drop-drop (i * width) width ns ∙ ap (λ (n : ℕ). drop n ns) e)
 
 -- the part of the numbers that a loop takes for a place
-abbrev part : ℕ → List ℕ → ℕ → List ℕ
+abbrev pub part : ℕ → List ℕ → ℕ → List ℕ
 part width ns at = take (at + width - at) (drop at ns)
 
 pub part_wide : (width : ℕ) (ns : List ℕ) (at : ℕ) → at + width ≤ length ns → width ≤ length (part width ns at)
@@ -45,13 +45,6 @@ module _ {A : Type 0} (f : List ℕ → A) (none : A) (width count places : ℕ)
       let n : i * width + width - i * width ≡ width = omega arith in
       let here : x ≡ f (get_or (slices width count ns) i []) = e ∙ ap f (rw n (sym (piece_at width count ns i h))) in
       rw (filled, here) (fill_more f [] i (slices width count ns) (replicate places none) (omega (arith, h, length_slices width count ns)) (omega (arith, k, length-replicate places none)))
-
-  -- all of them
-  pub front_filled : (items : List A) (i : ℕ) → i ≡ count → Filled items i → take count items ≡ map f (slices width count ns)
-  front_filled items i e filled =
-      let slices_all = take_all count (slices width count ns) (omega (arith, length_slices width count ns)) in
-      let whole : items ≡ map f (slices width count ns) ++ drop count (replicate places none) = filled ∙ rw (e, slices_all) refl in
-      ap (take count) whole ∙ take_at (map f (slices width count ns)) _ count (rw length-map (length_slices width count ns))
 
 -- and every place
 pub all_filled : {A : Type 0} (f : List ℕ → A) (none : A) (width count : ℕ) (ns : List ℕ) (items : List A) (i : ℕ) → i ≡ count →

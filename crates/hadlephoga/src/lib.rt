@@ -88,10 +88,18 @@ pub fn hadlephoga_net_set(set: &[u64], exposure: &mut u64, rwa: &mut u64) -> u64
     ensures exposure_after { exposure.new ≡ (netting_reply set.now).exposure }
     ensures rwa_after { rwa.new ≡ (netting_reply set.now).rwa }
 {
-    let reply = net_numbers(set);
-    *exposure = reply.exposure;
-    *rwa = reply.rwa;
-    reply.refusal
+    match net_numbers(set) {
+        Ok(amounts) => {
+            *exposure = amounts.exposure;
+            *rwa = amounts.rwa;
+            0
+        }
+        Err(refusal) => {
+            *exposure = 0;
+            *rwa = 0;
+            refusal.number()
+        }
+    }
 }
 
 // Opening a deal: 13 where the list is too short for a record, otherwise 11, the refusal or 0, and the record's numbers in the list.

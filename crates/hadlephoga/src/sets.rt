@@ -1,77 +1,77 @@
 // A netting set from numbers, and the reply to it.
 ghost use Rattle.std.specs.Prelude.{map, ◌≡◌, ◌*◌, ◌≤◌, length, take};
 ghost use Rattle.netting.specs.Fields.{position_in, position_width};
-ghost use Rattle.netting.specs.Reply.{refused_reply, reply_to};
-ghost use Rattle.hadlephoga.specs.Netting.{netting_reply};
+ghost use Rattle.hadlephoga.specs.Netting.{netting_reply, numbers_refusal_number, numbers_sent};
 ghost use Rattle.hadlephoga.specs.Records.{slices};
+ghost use Rattle.hadlephoga.specs.declared.sets.NumbersRefusal.TheVariants.{Set};
 
 use crate::MALFORMED;
 use netting::fields::{POSITION_WIDTH, SET_TERMS_WIDTH, position_in, set_terms_in};
 use netting::position::Position;
-use netting::set::{NettingReply, NettingSet};
-use netting::terms::SetTerms;
+use netting::refusal::SetRefusal;
+use netting::set::{NettingAmounts, NettingSet};
+use std::array;
 
-// So many positions, from the front; zeros behind them.
+// What numbers are refused for as a netting set.
+#[derive(Clone, Copy, Debug, PartialEq, Eq)]
+pub enum NumbersRefusal {
+    // One is missing, or one too many.
+    Malformed,
+    Set(SetRefusal),
+}
+
+impl NumbersRefusal {
+    #[tactic(auto, unfolding(crate::specs::Netting::numbers_refusal_number))]
+    pub fn number(self) -> u64
+        ensures { result ≡ numbers_refusal_number self }
+    {
+        match self {
+            NumbersRefusal::Malformed => MALFORMED,
+            NumbersRefusal::Set(refusal) => refusal.number(),
+        }
+    }
+}
+
+impl From<SetRefusal> for NumbersRefusal {
+    ghost from_gives = { λ refusal result. result ≡ Set refusal };
+
+    fn from(refusal: SetRefusal) -> NumbersRefusal {
+        NumbersRefusal::Set(refusal)
+    }
+}
+
+// So many positions, from the front; zeros behind them. Of more than there are places for only the first are read: such a set is refused,
+// whatever they are.
 fn positions_in(numbers: &[u64], count: usize) -> [Position; NettingSet::POSITION_LIMIT]
-    requires { (count ≤ 32) × (count * position_width ≤ length numbers.now) }
-    ensures { take count result ≡ map position_in (slices position_width count numbers.now) }
-{
-    let mut positions = [Position::ZERO; NettingSet::POSITION_LIMIT];
-    let mut i: usize = 0;
-    while i < count {
-        let at = i * POSITION_WIDTH;
-        let end = at + POSITION_WIDTH;
-        positions[i] = position_in(&numbers[at..end]);
-        i += 1;
-    }
-    positions
-}
-
-fn malformed() -> NettingReply
-    ensures { result ≡ refused_reply 11 }
-{
-    NettingReply {
-        refusal: MALFORMED,
-        exposure: 0,
-        rwa: 0,
-    }
-}
-
-// The reply to so many positions under these terms. Of more than there are places for none is read: such a set is refused, whatever they are.
-fn net_positions(terms: SetTerms, numbers: &[u64], count: usize) -> NettingReply
     requires { count * position_width ≤ length numbers.now }
-    ensures { result ≡ reply_to terms count (map position_in (slices position_width count numbers.now)) }
+    ensures { count ≤ 32 → take count result ≡ map position_in (slices position_width count numbers.now) }
 {
-    if count > NettingSet::POSITION_LIMIT {
-        let positions = [Position::ZERO; NettingSet::POSITION_LIMIT];
-        let set = NettingSet {
-            terms,
-            positions,
-            count,
-        };
-        return set.reply();
-    }
-    let positions = positions_in(numbers, count);
-    let set = NettingSet {
-        terms,
-        positions,
-        count,
-    };
-    set.reply()
+    array::from_fn(|i| {
+        if i < count {
+            let at = i * POSITION_WIDTH;
+            position_in(&numbers[at..at + POSITION_WIDTH])
+        } else {
+            Position::ZERO
+        }
+    })
 }
 
 // The reply to the set that these numbers are.
-pub fn net_numbers(numbers: &[u64]) -> NettingReply
-    ensures { result ≡ netting_reply numbers.now }
+pub fn net_numbers(numbers: &[u64]) -> Result<NettingAmounts, NumbersRefusal>
+    ensures { numbers_sent result ≡ netting_reply numbers.now }
 {
-    let length = numbers.len();
-    if length < SET_TERMS_WIDTH {
-        return malformed();
+    if numbers.len() < SET_TERMS_WIDTH {
+        return Err(NumbersRefusal::Malformed);
     }
-    let count = (length - SET_TERMS_WIDTH) / POSITION_WIDTH;
-    if length != SET_TERMS_WIDTH + count * POSITION_WIDTH {
-        return malformed();
+    let positions = &numbers[SET_TERMS_WIDTH..];
+    if positions.len() % POSITION_WIDTH != 0 {
+        return Err(NumbersRefusal::Malformed);
     }
-    let first: usize = SET_TERMS_WIDTH;
-    net_positions(set_terms_in(numbers), &numbers[first..], count)
+    let count = positions.len() / POSITION_WIDTH;
+    let set = NettingSet {
+        terms: set_terms_in(numbers),
+        positions: positions_in(positions, count),
+        count,
+    };
+    Ok(set.reply()?)
 }

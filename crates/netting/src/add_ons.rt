@@ -1,5 +1,7 @@
 // Absolute nets times haircuts, in millionths.
-ghost use Rattle.std.specs.Prelude.{◌≡◌, ◌≤◌, ℕ};
+ghost use Rattle.std.specs.Prelude.{◌≡◌, ◌≤◌, ◌*◌, ℕ, nat_abs};
+ghost use Rattle.netting.specs.Groups.{member};
+ghost use Rattle.netting.specs.Nets.{net as net_of};
 ghost use Rattle.netting.specs.Exposure.{currency_add_on, currency_figure, security_add_on, security_figure};
 ghost use Rattle.netting.specs.Haircuts.{currency_haircut_over, security_haircut};
 ghost use Rattle.netting.specs.Once.{sum_once};
@@ -37,26 +39,37 @@ fn sum_once<N: Fn(&Position) -> u64, F: Fn(&Position) -> u64>(
 }
 
 impl AcceptedSet<'_> {
+    // The absolute net of a group, times a haircut.
+    fn weighed_net(&self, group: Group, haircut: u64) -> u64
+        requires { haircut ≤ 1000000 }
+        ensures { result ≡ nat_abs (net_of (member group) self.now.positions.now) * haircut }
+    {
+        absolute(net(self.positions, group)) * haircut
+    }
+
     // What a position's security adds, where it counts.
+    #[tactic(auto, unfolding(crate::specs::Exposure::security_figure))]
     fn security_figure(&self, position: &Position) -> u64
         ensures { result ≡ security_figure (security_haircut self.now.terms) self.now.positions.now position.now }
     {
         if position.security == 0 {
             return 0;
         }
-        let net = absolute(net(self.positions, Group::Security(position.security)));
-        net * self.security_haircut(position)
+        self.weighed_net(
+            Group::Security(position.security),
+            self.security_haircut(position),
+        )
     }
 
     // What a position's currency adds, where it counts.
+    #[tactic(auto, unfolding(crate::specs::Exposure::currency_figure))]
     fn currency_figure(&self, position: &Position) -> u64
         ensures { result ≡ currency_figure self.now.terms.settlement (currency_haircut_over self.now.terms) self.now.positions.now position.now }
     {
         if position.currency == self.terms.settlement {
             return 0;
         }
-        let net = absolute(net(self.positions, Group::Currency(position.currency)));
-        net * self.currency_haircut()
+        self.weighed_net(Group::Currency(position.currency), self.currency_haircut())
     }
 
     // The figures of all securities.

@@ -12,6 +12,7 @@ use tables::haircuts::CURRENCY;
 use tables::kinds::REPO_STYLE;
 
 // The time factor of the set's period: its minimum is that of repo-style transactions.
+#[tactic(auto, using(crate::proofs::HaircutBounds::repo_period, scaling::proofs::Periods::period_bound))]
 pub fn factor_of(terms: SetTerms) -> TimeFactor
     requires { (1 ≤ terms.interval) × (terms.interval ≤ 60) }
     ensures { result.period ≡ set_period terms }
@@ -22,7 +23,7 @@ pub fn factor_of(terms: SetTerms) -> TimeFactor
 impl AcceptedSet<'_> {
     // The haircut of a position's security. Goods that are not eligible can only have been lent.
     pub fn security_haircut(&self, position: &Position) -> u64
-        ensures { result ≡ security_haircut self.now.terms position.now }
+        ensures { (result ≡ security_haircut self.now.terms position.now) × (result ≤ 1000000) }
     {
         let asset = position.asset;
         self.factor.scale(lent_haircut_under(self.terms.table, asset.goods, asset.step, asset.life))
@@ -30,7 +31,7 @@ impl AcceptedSet<'_> {
 
     // The haircut of currencies other than settlement.
     pub fn currency_haircut(&self) -> u64
-        ensures { result ≡ currency_haircut_over self.now.terms }
+        ensures { (result ≡ currency_haircut_over self.now.terms) × (result ≤ 1000000) }
     {
         self.factor.scale(CURRENCY)
     }

@@ -10,6 +10,7 @@ use deal::ranges::{amount_allowed, currency_allowed};
 use deal::refusal::Refusal;
 use tables::goods::CASH;
 
+// The sides. Numbers, as they are sent: a set whose position has another is refused, and not unreadable.
 pub const LENT: u64 = 1;
 
 pub const RECEIVED: u64 = 2;

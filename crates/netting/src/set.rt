@@ -9,6 +9,7 @@ use crate::refusal::{SetRefusal, check_fields, check_together};
 use crate::terms::SetTerms;
 use valuation::exposure::risk_weighted_amount;
 
+// A set by value, with no heap: the counted positions stand first. One that says it has more than there are places for is refused.
 #[derive(Clone, Copy)]
 pub struct NettingSet {
     pub terms: SetTerms,

@@ -20,9 +20,8 @@ use Rattle.netting.specs.Haircuts.{currency_haircut_over, security_haircut, set_
 use Rattle.netting.specs.Nets.{lent}
 use Rattle.netting.specs.Positions.{is_lent, received_side}
 use Rattle.netting.specs.Refusals.{set_refusal}
-use Rattle.netting.specs.Reply.{positions_of, reply_to, set_reply, set_weight, weighted_amount}
+use Rattle.netting.specs.Reply.{NettingReply, positions_of, reply_to, set_reply, set_weight, weighted_amount}
 use Rattle.netting.specs.declared.position.Position.{Position}
-use Rattle.netting.specs.Reply.{NettingReply}
 use Rattle.netting.specs.declared.set.NettingSet.{NettingSet}
 use Rattle.netting.specs.declared.terms.SetTerms.{SetTerms}
 use Rattle.netting.proofs.HaircutBounds.{together_low}
