@@ -37,7 +37,7 @@ use Rattle.lines.specs.declared.line.Line.TheVariants.{DealLine, CollateralLine,
 use Rattle.book.specs.Book.{lines_behind}
 use Rattle.book.specs.Deals.{DealLines}
 use Rattle.book.specs.Heading.{edition_of, first_header, heading_of, is_wrong, second_header, third_header}
-use Rattle.book.specs.declared.heading.Heading.{Heading}
+use Rattle.std.specs.Prelude.{Option}
 use Rattle.earlier.specs.Before2023.{before_2023, edition_before_2023, heading_before_2023, terms_checks_before_2023, with_edition, deal_with_edition}
 use Rattle.earlier.specs.Books.{book_refusal_by, book_reply_by, deal_answer_by, edition_by, line_opened_by, line_refusal_by, opening_refusal_by, printed_by, reported_by, results_by, with_line_by}
 use Rattle.earlier.specs.Deals.{accepted_by, add_collateral_refusal_by, add_guarantee_refusal_by, collateral_refusal_by, deal_opened_by, guarantee_refusal_by, report_by, report_refusal_by, terms_refusal_by, with_collateral_by, with_guarantee_by}
@@ -208,8 +208,8 @@ module _ (book : List ℕ) (not_3 : same_bytes (first_line book) third_header �
   headed : Other (edition_by before_2023 book)
   unfolding heading_before_2023
   headed =
-      either (λ (h : Heading). Other (edition_of h)) (same_bytes (first_line book) first_header) (λ e. refl)
-      (λ e. either (λ (h : Heading). Other (edition_of h)) (same_bytes (first_line book) second_header) (λ e. refl) (λ e. refl))
+      either (λ (h : Option ℕ). Other (edition_of h)) (same_bytes (first_line book) first_header) (λ e. refl)
+      (λ e. either (λ (h : Option ℕ). Other (edition_of h)) (same_bytes (first_line book) second_header) (λ e. refl) (λ e. refl))
 
   book_alike : is_wrong (heading_before_2023 (first_line book)) ≡ false → Alike in_force before_2023 (edition_by before_2023 book) any_line AnyDeal
   book_alike h = alike (edition_by before_2023 book) headed

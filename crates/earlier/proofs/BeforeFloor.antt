@@ -44,7 +44,7 @@ use Rattle.lines.proofs.SovereignLaws.{put_at}
 use Rattle.book.specs.Book.{lines_behind}
 use Rattle.book.specs.Deals.{DealLines}
 use Rattle.book.specs.Heading.{edition_of, first_header, heading_of, is_wrong, second_header, third_header}
-use Rattle.book.specs.declared.heading.Heading.{Heading}
+use Rattle.std.specs.Prelude.{Option}
 use Rattle.earlier.specs.BeforeFloor.{before_floor, guarantee_before, guarantee_checks_before, heading_before, line_before, new_fields_allowed, table_before, terms_before, terms_checks_before, swap_before}
 use Rattle.earlier.specs.Books.{book_refusal_by, book_reply_by, deal_answer_by, edition_by, line_opened_by, line_refusal_by, opening_refusal_by, printed_by, reported_by, results_by, with_line_by}
 use Rattle.earlier.specs.Deals.{accepted_by, add_collateral_refusal_by, add_guarantee_refusal_by, collateral_refusal_by, deal_opened_by, guarantee_refusal_by, report_by, report_refusal_by, terms_refusal_by, with_collateral_by, with_guarantee_by}
@@ -298,7 +298,7 @@ module _ (book : List ℕ) (not_2 : same_bytes (first_line book) second_header �
   -- unless it is wrong, it is headed 1
   headed_1 : is_wrong (heading_before (first_line book)) ≡ false → edition_by before_floor book ≡ 1
   unfolding heading_before
-  headed_1 = either (λ (h : Heading). is_wrong h ≡ false → edition_of h ≡ 1) (same_bytes (first_line book) first_header) (λ e h. refl) (λ e h. absurd (never refl h))
+  headed_1 = either (λ (h : Option ℕ). is_wrong h ≡ false → edition_of h ≡ 1) (same_bytes (first_line book) first_header) (λ e h. refl) (λ e h. absurd (never refl h))
 
   book_alike : is_wrong (heading_before (first_line book)) ≡ false → Alike in_force before_floor (edition_by before_floor book) any_line AnyDeal
   book_alike h = subst (λ edition. Alike in_force before_floor edition any_line AnyDeal) (sym (headed_1 h)) alike

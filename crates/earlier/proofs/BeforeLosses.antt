@@ -17,7 +17,7 @@ use Rattle.deal.specs.Editions.{table_for}
 use Rattle.deal.specs.Lists.{list_limit}
 use Rattle.deal.specs.Records.{accepted}
 use Rattle.deal.specs.Views.{View, view_of}
-use Rattle.deal.specs.declared.answer.Answer.TheVariants.{Accepted}
+use Rattle.std.specs.Prelude.{Ok}
 use Rattle.deal.specs.declared.terms.Terms.{Terms}
 use Rattle.deal.specs.declared.collateral.Collateral.{Collateral}
 use Rattle.deal.specs.declared.guarantee.Guarantee.{Guarantee}
@@ -110,7 +110,7 @@ module _ (table : Table) (v : View) where
   full_stays : report_as_before (full_report table v) ≡ full_report_before table v
   unfolding full_report full_report_before
   full_stays = λ i. record {
-    answer = Accepted;
+    answer = Ok tt;
     exposure = exposure_stays i;
     collateral = collateral_reported i;
     guarantees = guarantees_reported i;

@@ -16,15 +16,15 @@ use Rattle.deal.specs.declared.checks.FieldChecks.{FieldChecks}
 use Rattle.deal.specs.declared.terms.Terms.{Terms}
 use Rattle.deal.specs.declared.deal.Deal.{Deal}
 use Rattle.lines.specs.Lines.{line_of}
-use Rattle.book.specs.declared.heading.Heading.{Heading}
-use Rattle.book.specs.declared.heading.Heading.TheVariants.{Edition, Wrong}
+use Rattle.std.specs.Prelude.{Option}
+use Rattle.std.specs.Prelude.{Some, None}
 use Rattle.earlier.specs.Rules.{Rules}
 
-unfoldable pub heading_before_2023 : List ℕ → Heading
+unfoldable pub heading_before_2023 : List ℕ → Option ℕ
 heading_before_2023 line =
-    if same_bytes line (bytes "CRM\t1\n") then Edition 1 else
-    if same_bytes line (bytes "CRM\t2\n") then Edition 2 else
-    Wrong
+    if same_bytes line (bytes "CRM\t1\n") then Some 1 else
+    if same_bytes line (bytes "CRM\t2\n") then Some 2 else
+    None
 
 abbrev pub edition_before_2023 : ℕ → Bool
 edition_before_2023 edition = within 1 2 edition

@@ -27,13 +27,13 @@ use Rattle.lines.specs.Fields.{fields_of}
 use Rattle.lines.specs.Lines.{collateral_line, if_read}
 use Rattle.lines.specs.declared.line.Line.{Line}
 use Rattle.lines.specs.declared.line.Line.TheVariants.{DealLine, GuaranteeLine, Malformed}
-use Rattle.book.specs.declared.heading.Heading.{Heading}
-use Rattle.book.specs.declared.heading.Heading.TheVariants.{Edition, Wrong}
+use Rattle.std.specs.Prelude.{Option}
+use Rattle.std.specs.Prelude.{Some, None}
 use Rattle.earlier.specs.Rules.{Rules}
 
 -- "The first line is the five bytes C, R, M, tab, 1 and its line feed"
-unfoldable pub heading_before : List ℕ → Heading
-heading_before line = if same_bytes line (bytes "CRM\t1\n") then Edition 1 else Wrong
+unfoldable pub heading_before : List ℕ → Option ℕ
+heading_before line = if same_bytes line (bytes "CRM\t1\n") then Some 1 else None
 
 -- the ten fields of a line D, and the nine of a line G
 abbrev pub terms_before : List ℕ → Terms

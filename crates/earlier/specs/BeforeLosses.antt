@@ -17,8 +17,9 @@ use Rattle.deal.specs.Editions.{table_for}
 use Rattle.deal.specs.Lists.{list_limit}
 use Rattle.deal.specs.Records.{accepted}
 use Rattle.deal.specs.Views.{View, view_of}
-use Rattle.deal.specs.declared.answer.Answer.{Answer}
-use Rattle.deal.specs.declared.answer.Answer.TheVariants.{Accepted, RecordNotAccepted}
+use Rattle.std.specs.Prelude.{Result, ⊤, Ok, Err}
+use Rattle.deal.specs.declared.refusal.Refusal.{Refusal}
+use Rattle.deal.specs.declared.refusal.Refusal.TheVariants.{RecordNotAccepted}
 use Rattle.deal.specs.declared.terms.Terms.{Terms}
 use Rattle.deal.specs.declared.collateral.Collateral.{Collateral}
 use Rattle.deal.specs.declared.guarantee.Guarantee.{Guarantee}
@@ -79,7 +80,7 @@ pub record GuaranteeReportBefore : Type 0 where
   pub portion : ℕ
 
 pub record ReportBefore : Type 0 where
-  pub answer : Answer
+  pub answer : Result ⊤ Refusal
   pub exposure : ℕ
   pub collateral : List OutcomeBefore
   pub guarantees : List GuaranteeReportBefore
@@ -92,7 +93,7 @@ no_guarantee_before = record { outcome = valued 0; portion = 0 }
 
 unfoldable pub full_report_before : Table → View → ReportBefore
 full_report_before table v = record {
-  answer = Accepted;
+  answer = Ok tt;
   exposure = exposure_before table v;
   collateral = in_places list_limit (valued 0) (map (collateral_outcome_before table v.terms) v.collateral);
   guarantees =
@@ -105,7 +106,7 @@ full_report_before table v = record {
 -- "all zeros beside the 40"
 abbrev pub refused_report_before : ReportBefore
 refused_report_before = record {
-  answer = RecordNotAccepted;
+  answer = Err RecordNotAccepted;
   exposure = 0;
   collateral = in_places list_limit (valued 0) [];
   guarantees = in_places list_limit no_guarantee_before [];

@@ -12,7 +12,7 @@ use Rattle.book.specs.Answers.{malformed_line, no_deal, refused_at}
 use Rattle.book.specs.Book.{deals_of, lines_behind}
 use Rattle.book.specs.Deals.{DealLines, opens_deal}
 use Rattle.book.specs.Heading.{edition_of, is_wrong}
-use Rattle.book.specs.declared.reply.BookReply.{BookReply}
+use Rattle.book.specs.Book.{BookReply}
 use Rattle.result.specs.Result.{result_text}
 use Rattle.response.specs.Response.{places}
 use Rattle.earlier.specs.Deals.{add_collateral_refusal_by, add_guarantee_refusal_by, deal_opened_by, report_by, report_refusal_by, terms_refusal_by, with_collateral_by, with_guarantee_by}

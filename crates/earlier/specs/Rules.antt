@@ -16,11 +16,11 @@ use Rattle.deal.specs.declared.guarantee.Guarantee.{Guarantee}
 use Rattle.lines.specs.Lines.{line_of}
 use Rattle.lines.specs.declared.line.Line.{Line}
 use Rattle.book.specs.Heading.{heading_of}
-use Rattle.book.specs.declared.heading.Heading.{Heading}
+use Rattle.std.specs.Prelude.{Option}
 
 pub record Rules : Type 0 where
   -- what the first line of a book says
-  pub heading : List ℕ → Heading
+  pub heading : List ℕ → Option ℕ
   -- what a line behind it says, by the edition
   pub line : ℕ → List ℕ → Line
   -- what opening and adding test of fields, in their order

@@ -8,7 +8,7 @@ use Rattle.deal.specs.Adding.{add_collateral_refusal, add_collateral_tests, add_
 use Rattle.deal.specs.Fields.{collateral_in, collateral_width, guarantee_in, guarantee_width, sent_guarantee_width, sent_swap_width, terms_in, terms_width, zero_collateral, zero_guarantee}
 use Rattle.deal.specs.Collateral.{collateral_list_tests}
 use Rattle.deal.specs.Guarantees.{guarantee_list_tests}
-use Rattle.deal.specs.declared.answer.Answer.TheVariants.{Accepted}
+use Rattle.std.specs.Prelude.{Ok}
 use Rattle.relief.specs.Grounds.{ground_number}
 use Rattle.relief.specs.Outcomes.{outcome_ground, outcome_left_out, outcome_valuation}
 use Rattle.relief.specs.declared.ground.Ground.TheVariants.{NotLawful, WeightNotBelow}
@@ -132,7 +132,7 @@ record_in_place = (refl, refl, refl, refl, refl, refl, refl, refl, refl)
 -- a report with other numbers in every part
 abbrev sample : Report
 sample = record {
-  answer = Accepted;
+  answer = Ok tt;
   exposure = 1;
   collateral = record { outcome = Valued (record { value = 2; haircut_loss = 3; maturity_loss = 4; cut_loss = 5 }) } ∷ record { outcome = LeftOut NotLawful 6 } ∷ [];
   guarantees = record { outcome = Valued (record { value = 7; haircut_loss = 8; maturity_loss = 9; cut_loss = 10 }); portion = 11 } ∷ record { outcome = LeftOut WeightNotBelow 12; portion = 13 } ∷ [];

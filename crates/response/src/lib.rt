@@ -15,6 +15,8 @@ pub fn respond(book: &[u8], results: &mut [u64; 8192], out: &mut [u8; 172061]) -
         (result ≡ length text) × (out.new ≡ text ++ drop (length text) out.old) }
     ensures results_after { results.new ≡ results_after book.now results.old }
 {
-    let reply = answer_book(book, results);
-    write_result(reply.refusal, reply.deals, results, out)
+    match answer_book(book, results) {
+        Ok(deals) => write_result(0, deals, results, out),
+        Err(refusal) => write_result(refusal.number(), 0, results, out),
+    }
 }
