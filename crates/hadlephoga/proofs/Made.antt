@@ -33,8 +33,8 @@ module _ {F B : Type 0} (g : Mut F (ℕ × Unit {0}) B) (f : F) (value : ℕ →
       same_lists (take count ys) (map read (slices width count ns))
       (length-take-le count ys (omega (arith, made.long)) ∙ sym (length-map (slices width count ns) read ∙ length_slices width count ns))
       (λ k d h.
-        let c : k < count = omega (arith, h, length-take-le count ys (omega (arith, made.long))) in
-        let n : k * width + width - k * width ≡ width = omega arith in
-        let piece : part width ns (k * width) ≡ get_or (slices width count ns) k [] = rw n (sym (piece_at width count ns k c)) in
-        get_or-take count ys k d c ∙ made_from f refl ys 0 places made.each k d (omega arith) (omega arith) c ∙ is k ∙ ap read piece
-        ∙ sym (get_or-map read (slices width count ns) k [] d (omega (arith, length_slices width count ns))))
+      let c : k < count = omega (arith, h, length-take-le count ys (omega (arith, made.long))) in
+      let n : k * width + width - k * width ≡ width = omega arith in
+      let piece : part width ns (k * width) ≡ get_or (slices width count ns) k [] = rw n (sym (piece_at width count ns k c)) in
+      get_or-take count ys k d c ∙ made_from f refl ys 0 places made.each k d (omega arith) (omega arith) c ∙ is k ∙ ap read piece
+      ∙ sym (get_or-map read (slices width count ns) k [] d (omega (arith, length_slices width count ns))))

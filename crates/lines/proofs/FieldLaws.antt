@@ -76,11 +76,6 @@ pub record Filled (line : List ℕ) (count : ℕ) (values : List ℕ) (rest : Li
   pub inside : length rest ≤ length line
   pub passed : fields_of count line ≡ prepend (take k values) (fields_of (count - k) rest)
 
-pub none_filled : (line : List ℕ) (count : ℕ) (values : List ℕ) → length values ≡ count → Filled line count values line 0
-none_filled line count values e =
-    let z : count - 0 ≡ count = omega arith in
-    record { few = omega arith; places = e; inside = omega arith; passed = rw z (nothing_before _) }
-
 module _ (line : List ℕ) (count : ℕ) (values rest : List ℕ) (k : ℕ) (held : Filled line count values rest k) where
   -- the next field is no number
   pub bad : k < count → field_of rest ≡ None → fields_of count line ≡ None

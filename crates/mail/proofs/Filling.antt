@@ -264,9 +264,6 @@ module _ (book buffer₀ list₀ buffer list : List ℕ) (filled : Filled) (f : 
           numbered = some_line;
         }
 
-  pub last_length : (r : ℕ) (list' : List ℕ) → Pushed (not filled.place.altered) filled.line filled.lines list list' r → length list' ≡ length list₀
-  last_length r list' p = pushed_length (not filled.place.altered) filled.line filled.lines r list list' p ∙ same_numbers
-
   -- at the start of the book its first line is left
   module _ (z : filled.place.at ≡ 0) where
     first_line_lem : filled.line ≡ 1

@@ -1,11 +1,10 @@
 -- A byte that is put in front of others, or left out. Assumes nothing.
-use Prim.Native.Nat.{ℕ, ◌<◌}
+use Prim.Native.Nat.{ℕ}
 use mathlib.Core.Path.{◌≡◌, refl, sym, ap, ◌∙◌}
 use mathlib.Core.Bool.{Bool, true, false, not, ◌&&◌}
 use mathlib.Core.List.{List}
-use native.Mathlib.Omega.{arith}
 use lib.Dec.{eqb}
-use lib.ListN.{length, get_or, set}
+use lib.ListN.{get_or, set}
 use lib.Seq.{set-get_or}
 use Rattle.base.proofs.Every.{both}
 use Rattle.text.specs.Text.{tab}
@@ -13,10 +12,6 @@ use Rattle.mail.specs.Mail.{space}
 use Rattle.mail.specs.Bytewise.{tabbed}
 use Rattle.mail.specs.Feeds.{plus_if}
 use Rattle.mail.specs.Working.{Pushed, RoomForByte}
-
-pub pushed_inside : (skip : Bool) (at r : ℕ) (buffer : List ℕ) → RoomForByte skip at buffer → at ≡ plus_if (not skip) r → r < length buffer
-pushed_inside true at r buffer h e = omega (arith, (h.there refl).0)
-pushed_inside false at r buffer h e = omega (arith, h.room.inside)
 
 -- the tab that stands there is written again
 pub pushed_byte : (b : ℕ) (spaced : Bool) (at r : ℕ) (buffer : List ℕ) → RoomForByte (eqb b space && spaced) at buffer → at ≡ plus_if (not (eqb b space && spaced)) r →

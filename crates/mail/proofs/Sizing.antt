@@ -100,12 +100,6 @@ module _ (book : List ℕ) (place : Place) (sizes : Sizes) (m : Measuring book p
   pub few_dropped : sizes.dropped ≤ 65536 - place.at
   few_dropped = omega (arith, part_length, m.limit, m.ahead.inside, m.sized.bytes)
 
-  pub few_altered : sizes.lines ≤ 65536
-  few_altered = omega (arith, part_length, m.limit, m.sized.few_lines, m.sized.few_feeds)
-
-  pub few_fed : sizes.feeds ≤ 65536
-  few_fed = omega (arith, part_length, m.limit, m.sized.few_feeds)
-
   pub feed_passed : (next : Place) → Stepped book line_feed place next →
       Measuring book next (record { dropped = sizes.dropped + (place.at - 1 - next.at); lines = plus_if place.altered sizes.lines; feeds = sizes.feeds + 1 })
   feed_passed next h =

@@ -24,9 +24,6 @@ module _ (book buffer list buffer' list' : List ℕ) (reply : RepairReply) (r : 
   unfolding book_written repair_reply buffer_after
   book_whole = (ap (λ s. s.bytes) r.replied ∙ rw (room, long), r.written ∙ rw (room, long))
 
-  pub numbers_whole : list' ≡ numbers_after book 65536 list
-  numbers_whole = r.numbered ∙ rw room
-
   pub all_noticed : list_written reply.refusal reply.lines list' 1376285 ≡ notice_written book
   unfolding notice_written repair_reply numbers_after
   all_noticed =

@@ -5,8 +5,8 @@ use mathlib.Core.List.{List, [], ◌∷◌, ◌++◌, append_assoc, append-nil}
 use native.Mathlib.Omega.{arith}
 use lib.ListN.{length, set, length-set}
 use Rattle.result.specs.Numbers.{number_text}
-use Rattle.base.specs.Writing.{placed_at, Placed}
-use Rattle.result.proofs.Digits.{number_short, number_last, last_digits, last_none, last_more}
+use Rattle.base.specs.Writing.{placed_at}
+use Rattle.result.proofs.Digits.{number_short, number_last, last_digits, last_more}
 use Rattle.base.proofs.Writing.{placed_none, placed_front}
 
 pub record DigitsWritten (before : List ℕ) (at n end : ℕ) (out : List ℕ) (place rest : ℕ) : Type 0 where
@@ -45,9 +45,3 @@ module _ (before : List ℕ) (at n end : ℕ) (out : List ℕ) (place rest : ℕ
         text = rw (last_more (place - 1 - at) (place - at) rest (omega arith), append_assoc, ← d) at h.text;
         held = rw h.held (ap (λ (q : ℕ). set (placed_at q h.behind before) (place - 1) digit) p ∙ placed_front (place - 1) h.behind before digit (omega (arith, h.ends, h.inside)));
       }
-
-  pub all_digits : place ≤ at → end ≡ at + length (number_text n) → Placed at (number_text n) before out end
-  all_digits k e =
-      let p : place ≡ at = omega (arith, h.starts) in
-      let t : number_text n ≡ h.behind = h.text ∙ ap (λ (l : List ℕ). l ++ h.behind) (last_none (place - at) rest (omega arith)) in
-      record { ends = e; holds = rw (t, ← p) h.held }

@@ -22,10 +22,6 @@ module _ (text : List ℕ) (at : ℕ) where
   unfolding first_line
   no_feed h e = rw (add-one at, drop-cons text at 0 h, e, add-one)
 
--- places in the line that starts here
-pub near_start : (text : List ℕ) (start : ℕ) → start ≤ length text → Near text start start
-near_start text start h = record { inside = h; same = refl }
-
 -- one byte further on
 nearer : (text : List ℕ) (start at : ℕ) → Near text start at → at < length text → eqb (get_or text at 0) line_feed ≡ false → Near text start (at + 1)
 nearer text start at p h e = record { inside = omega arith; same = omega (arith, p.same, no_feed text at h e) }
