@@ -33,12 +33,7 @@ fn open<R: Files>(rt: &R, name: &[u8], ending: &[u8]) -> Option<R::File> {
 }
 
 // Reads the file, if it is there, from its start, as far as there is room. How many bytes of the buffer are its own.
-pub fn read_file<R: Files>(
-    rt: &R,
-    name: &[u8],
-    ending: &[u8],
-    buffer: &mut [u8],
-) -> Option<usize>
+pub fn read_file<R: Files>(rt: &R, name: &[u8], ending: &[u8], buffer: &mut [u8]) -> Option<usize>
     ensures { IfSome result (λ count. IsPrefixLen count buffer.new) }
 {
     let mut file = open(rt, name, ending)?;

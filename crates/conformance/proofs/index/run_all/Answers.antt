@@ -1,4 +1,4 @@
-use Rattle.std.proofs.Common.{ap, arith, length, ◌+◌, ◌≤◌, ◌≡◌, ℕ, List}
+use Rattle.std.proofs.Common.{ap, arith, length, ◌+◌, ◌≤◌, ◌≡◌}
 use Rattle.text.specs.Text.{lines_of}
 use Rattle.text.proofs.Lines.{lines_at, first_at_some, first_inside, no_lines_at}
 use Rattle.conformance.proofs.index.run_all.Goals as goal
