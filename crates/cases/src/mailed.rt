@@ -1,7 +1,6 @@
 // A book that came by mail, repaired by the operation and by the program crmrepair.
 use crate::front::BYTES;
-use crate::show;
-use crate::show::{number, sum, text};
+use crate::show::{self, number, sum, text};
 
 // What a byte of the second buffer holds before it is written.
 const BYTE_MARK: u8 = 238;
@@ -45,12 +44,10 @@ pub fn notice(rt: &impl Print, book: &[u8]) {
     let mut list = [0u64; BOOK];
     let mut notice = [0u8; NOTICE];
     let lengths = repairing::respond(book, &mut buffer, &mut list, &mut notice);
-    let written = lengths.book;
-    let said = lengths.notice;
-    number(rt, "= written", written as u64);
-    number(rt, " sum", sum(&buffer[..written]));
-    number(rt, " notice", said as u64);
-    number(rt, " sum", sum(&notice[..said]));
+    number(rt, "= written", lengths.book as u64);
+    number(rt, " sum", sum(&buffer[..lengths.book]));
+    number(rt, " notice", lengths.notice as u64);
+    number(rt, " sum", sum(&notice[..lengths.notice]));
     number(rt, " of", book.len() as u64);
     text(rt, " bytes\n");
 }

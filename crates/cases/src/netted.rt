@@ -1,6 +1,5 @@
 // A netting set: six numbers, and seven for each position.
-use crate::show;
-use crate::show::{number, text};
+use crate::show::{self, number, text};
 
 // The reply, with E* and the weighted amount beside a refusal too.
 pub fn net(rt: &impl Print, set: &[u64]) {

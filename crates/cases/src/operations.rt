@@ -1,6 +1,5 @@
 // The operations, on a record and on a book.
-use crate::show;
-use crate::show::{number, sum, text};
+use crate::show::{self, number, sum, text};
 
 // With places behind the record, which no operation writes.
 pub const PLACES: usize = show::RECORD_LENGTH + 4;
