@@ -3,128 +3,118 @@
 
 #![tactic(auto)]
 
-ghost use Rattle.std.specs.Prelude.{◌≤◌};
+ghost use Rattle.std.specs.Prelude.{◌<◌, IfSome, length};
 ghost use Rattle.io.specs.Counts.{IsPrefixLen};
 
 mod fields;
+mod front;
 mod mailed;
 mod netted;
 mod operations;
 mod show;
 
-use fields::{BYTES, ROOM};
+use fields::ROOM;
+use front::Front;
 use input::read_full;
 use operations::PLACES;
 use std::fs::File;
 use std::rt::Files;
 
-// Reads a file from its start, as far as there is room; of one that is missing, nothing.
-fn content<R: Files>(rt: &R, name: &[u8], buffer: &mut [u8]) -> usize
-    ensures { IsPrefixLen result buffer.new }
+// Reads a file, if it is there, from its start, as far as there is room.
+fn content<R: Files>(rt: &R, name: &[u8], buffer: &mut [u8]) -> Option<usize>
+    ensures { IfSome result (λ count. IsPrefixLen count buffer.new) }
 {
-    let Ok(path) = str::from_utf8(name) else {
-        return 0;
-    };
-    let Ok(mut file) = File::open(rt, path) else {
-        return 0;
-    };
-    read_full(&mut file, buffer).unwrap_or_else(|cut| cut.count)
+    let path = str::from_utf8(name).ok()?;
+    let mut file = File::open(rt, path).ok()?;
+    Some(read_full(&mut file, buffer).unwrap_or_else(|cut| cut.count))
 }
 
-// The same. A file that is missing, or may be longer, shows.
+// The same; of a file that is missing, nothing. One that is missing, or may be longer, shows.
 fn read(rt: &(impl Files + Print), name: &[u8], buffer: &mut [u8]) -> usize
     ensures { IsPrefixLen result buffer.new }
 {
-    let count = content(rt, name, buffer);
+    let count = content(rt, name, buffer).unwrap_or(0);
     if count == 0 || count == buffer.len() {
-        show::text(rt, b"not read whole: ");
-        show::text(rt, name);
-        show::text(rt, b"\n");
+        show::text(rt, "not read whole: ");
+        let _ = rt.write_all(name);
+        show::text(rt, "\n");
     }
     count
 }
 
-// Two words begin with n: `net`, a netting set, and `notice`.
-fn net_or_notice(
-    rt: &impl Print,
-    line: &[u8],
-    numbers: &[u64; ROOM],
-    end: usize,
-    front: &[u8; BYTES],
-    held: usize,
-)
-    requires { end ≤ 256 }
-{
-    if line.len() > 1 && line[1] == b'e' {
-        netted::net(rt, numbers, end);
-        return;
-    }
-    mailed::notice(rt, front, held);
+// What lasts for a file: the record, how many places are lent of it or of a list of altered lines, and of a list for a report, and the
+// bytes in front of a book.
+#[derive(Drop)]
+struct Held {
+    record: [u64; PLACES],
+    lent: u64,
+    room: u64,
+    front: Front,
 }
 
-// Runs a line on the record and on the bytes in front of a book; how many these then are. The first letter of its word says
-// which operation it is; two begin with n. So many places are lent of the record or of a list of altered lines, and of a list for
-// a report.
-fn run(
-    rt: &impl Print,
-    line: &[u8],
-    record: &mut [u64; PLACES],
-    lent: &mut [u64; 2],
-    front: &mut [u8; BYTES],
-    held: usize,
-) -> usize {
-    show::text(rt, line);
-    show::text(rt, b"\n");
-    if line.len() == 0 {
-        return held;
+impl Held {
+    fn new() -> Held {
+        Held {
+            record: [show::MARK; PLACES],
+            lent: show::RECORD_LENGTH as u64,
+            room: show::REPORT_PLACES as u64,
+            front: Front::new(),
+        }
     }
-    let mut numbers = [0u64; ROOM];
-    let end = fields::numbers(line, &mut numbers);
-    let letter = line[0];
-    match letter {
-        b'o' | b'c' | b'g' | b'd' => operations::change(rt, letter, record, lent[0], &numbers, end),
-        b'r' => operations::report(rt, record, lent[0], lent[1]),
-        b'l' => {
-            lent[0] = numbers[1];
-            lent[1] = numbers[2];
+}
+
+// Runs a line. The first letter of its word says which operation it is; two begin with n, `net` and `notice`.
+fn run(rt: &impl Print, line: &[u8], held: &mut Held) {
+    let _ = rt.write_all(line);
+    show::text(rt, "\n");
+    let mut places = [0u64; ROOM];
+    let numbers = fields::numbers(line, &mut places);
+    let first = numbers.first().copied().unwrap_or(0);
+    let second = numbers.get(1).copied().unwrap_or(0);
+    match line {
+        [b'o', ..] => operations::change(rt, &mut held.record, held.lent, |record| {
+            hadlephoga::hadlephoga_open_deal(numbers, record)
+        }),
+        [b'c', ..] => operations::change(rt, &mut held.record, held.lent, |record| {
+            hadlephoga::hadlephoga_add_collateral(record, numbers)
+        }),
+        [b'g', ..] => operations::change(rt, &mut held.record, held.lent, |record| {
+            hadlephoga::hadlephoga_add_guarantee(record, numbers)
+        }),
+        [b'd', ..] => operations::change(rt, &mut held.record, held.lent, |record| {
+            hadlephoga::hadlephoga_add_swap(record, numbers)
+        }),
+        [b'r', ..] => operations::report(rt, &held.record, held.lent, held.room),
+        [b'l', ..] => {
+            held.lent = first;
+            held.room = second;
         }
-        b's' => operations::set(record, &numbers, end),
-        b't' => return fields::repeat(front, held, numbers[1], line),
-        b'b' => {
-            let count = fields::put(front, held, line);
-            operations::answer(rt, front, count, numbers[1]);
-        }
-        b'p' => operations::print(rt, front, held),
-        b'm' => {
-            let count = fields::put(front, held, line);
-            mailed::repair(rt, front, count, numbers[1], lent[0]);
-        }
-        b'n' => net_or_notice(rt, line, &numbers, end, front, held),
-        b'e' => return 0,
+        [b's', ..] => operations::set(&mut held.record, numbers),
+        [b't', ..] => held.front.repeat(first, line),
+        [b'b', ..] => operations::answer(rt, held.front.with(line), first),
+        [b'p', ..] => operations::print(rt, held.front.bytes()),
+        [b'm', ..] => mailed::repair(rt, held.front.with(line), first, held.lent),
+        [b'n', b'e', ..] => netted::net(rt, numbers),
+        [b'n', ..] => mailed::notice(rt, held.front.bytes()),
+        [b'e', ..] => held.front.clear(),
         _ => {}
     }
-    held
 }
 
-// The record, what is lent, and the bytes in front last for a file.
+// The first line, without its line feed, and what stands behind it; none where there is no line feed.
+fn cut_line(text: &[u8]) -> Option<(&[u8], &[u8])>
+    ensures { IfSome result (λ cut. length cut.1.now < length text.now) }
+{
+    let end = text.iter().position(|byte| *byte == b'\n')?;
+    Some((&text[..end], &text[end + 1..]))
+}
+
 fn run_lines(rt: &impl Print, lines: &[u8]) {
-    let mut record = [show::MARK; PLACES];
-    let mut lent = [show::RECORD_LENGTH as u64, show::REPORT_PLACES as u64];
-    let mut front = [0u8; BYTES];
-    let mut held: usize = 0;
-    let mut start: usize = 0;
-    for i in 0..lines.len() {
-        if lines[i] == b'\n' {
-            held = run(
-                rt,
-                &lines[start..i],
-                &mut record,
-                &mut lent,
-                &mut front,
-                held,
-            );
-            start = i + 1;
-        }
+    let mut held = Held::new();
+    let mut left = lines;
+    while let Some((line, others)) = cut_line(left) {
+        run(rt, line, &mut held);
+        left = others;
     }
 }
 
@@ -135,12 +125,10 @@ fn run_file(rt: &(impl Files + Print), name: &[u8]) {
 }
 
 fn run_files(rt: &(impl Files + Print), names: &[u8]) {
-    let mut start: usize = 0;
-    for i in 0..names.len() {
-        if names[i] == b'\n' {
-            run_file(rt, &names[start..i]);
-            start = i + 1;
-        }
+    let mut left = names;
+    while let Some((name, others)) = cut_line(left) {
+        run_file(rt, name);
+        left = others;
     }
 }
 

@@ -1,27 +1,14 @@
 // A netting set: six numbers, and seven for each position.
-ghost use Rattle.std.specs.Prelude.{◌≤◌};
-
-use crate::fields::ROOM;
-use crate::show;
-use crate::show::{least, number};
+use crate::show::{self, number, text};
 
 // The reply, with E* and the weighted amount beside a refusal too.
-fn netted(rt: &impl Print, set: &[u64]) {
+pub fn net(rt: &impl Print, set: &[u64]) {
     let mut exposure = show::MARK;
     let mut rwa = show::MARK;
     let refusal = hadlephoga::hadlephoga_net_set(set, &mut exposure, &mut rwa);
-    number(rt, b"=", refusal);
-    number(rt, b"", exposure);
-    number(rt, b"", rwa);
-    number(rt, b" of", set.len() as u64);
-    show::text(rt, b" numbers\n");
-}
-
-// The numbers behind the word, as a set.
-pub fn net(rt: &impl Print, numbers: &[u64; ROOM], end: usize)
-    requires { end ≤ 256 }
-{
-    let all = &numbers[..];
-    let first = least(1, end);
-    netted(rt, &all[first..end]);
+    number(rt, "=", refusal);
+    number(rt, "", exposure);
+    number(rt, "", rwa);
+    number(rt, " of", set.len() as u64);
+    text(rt, " numbers\n");
 }

@@ -1,9 +1,5 @@
 // The operations, on a record and on a book.
-ghost use Rattle.std.specs.Prelude.{◌≤◌};
-
-use crate::fields::{ROOM, wide};
-use crate::show;
-use crate::show::{least, number};
+use crate::show::{self, number, sum, text};
 
 // With places behind the record, which no operation writes.
 pub const PLACES: usize = show::RECORD_LENGTH + 4;
@@ -14,100 +10,60 @@ const RESULTS: usize = 87_380;
 // Room for what is printed for 2,048 deals.
 const TEXT: usize = 172_061;
 
-// Opening, or adding, by the first letter of its word.
-fn changed(letter: u8, list: &mut [u64], numbers: &[u64]) -> u64 {
-    match letter {
-        b'o' => hadlephoga::hadlephoga_open_deal(numbers, list),
-        b'c' => hadlephoga::hadlephoga_add_collateral(list, numbers),
-        b'g' => hadlephoga::hadlephoga_add_guarantee(list, numbers),
-        _ => hadlephoga::hadlephoga_add_swap(list, numbers),
-    }
-}
-
-// Lends so many places, with the numbers behind the word, and shows all places.
-pub fn change(
+// Opening, or adding: lends so many places, and shows all places.
+pub fn change<F: FnOnce(&mut [u64]) -> u64>(
     rt: &impl Print,
-    letter: u8,
-    record: &mut [u64],
+    record: &mut [u64; PLACES],
     places: u64,
-    numbers: &[u64; ROOM],
-    end: usize,
+    operation: F,
 )
-    requires { end ≤ 256 }
+    requires { F.IsAlwaysCallable operation }
 {
-    let lent = least(places as usize, record.len());
-    let all = &numbers[..];
-    let front: usize = 0;
-    let first = least(1, end);
-    let refusal = changed(letter, &mut record[front..lent], &all[first..end]);
+    let lent = PLACES.min(places as usize);
+    let refusal = operation(&mut record[..lent]);
     show::record(rt, refusal, record);
 }
 
-fn reported(rt: &impl Print, numbers: &[u64], list: &mut [u64]) {
-    let refusal = hadlephoga::hadlephoga_report_deal(numbers, list);
-    show::report(rt, refusal, list);
-}
-
 // So many places of the record, reported into so many places.
-pub fn report(rt: &impl Print, record: &[u64], places: u64, room: u64) {
+pub fn report(rt: &impl Print, record: &[u64; PLACES], places: u64, room: u64) {
     let mut list = [show::MARK; show::REPORT_PLACES];
-    let lent = least(places as usize, record.len());
-    let into = least(room as usize, show::REPORT_PLACES);
-    let front: usize = 0;
-    reported(rt, &record[front..lent], &mut list[front..into]);
+    let lent = PLACES.min(places as usize);
+    let into = show::REPORT_PLACES.min(room as usize);
+    let refusal = hadlephoga::hadlephoga_report_deal(&record[..lent], &mut list[..into]);
+    show::report(rt, refusal, &list[..into]);
 }
 
-// Writes numbers from a place on.
-pub fn set(record: &mut [u64; PLACES], numbers: &[u64; ROOM], end: usize)
-    requires { end ≤ 256 }
-{
-    let place = least(numbers[1] as usize, PLACES);
-    for k in 2..end {
-        record[least(place + k - 2, PLACES - 1)] = numbers[k];
+// Writes the numbers behind the first one, from the place on that it names.
+pub fn set(record: &mut [u64; PLACES], numbers: &[u64]) {
+    let Some((place, values)) = numbers.split_first() else {
+        return;
+    };
+    let place = PLACES.min(*place as usize);
+    for (k, value) in values.iter().enumerate() {
+        record[(place + k).min(PLACES - 1)] = *value;
     }
 }
 
-fn answered(rt: &impl Print, book: &[u8], list: &mut [u64]) {
-    let mut deals = show::MARK;
-    let refusal = hadlephoga::hadlephoga_answer_book(book, list, &mut deals);
-    number(rt, b"=", refusal);
-    number(rt, b"", deals);
-    number(rt, b" of", book.len() as u64);
-    show::text(rt, b" bytes");
-    show::results(rt, list);
-}
-
-// So many bytes as a book, answered into so many places.
-pub fn answer(rt: &impl Print, bytes: &[u8], count: usize, places: u64) {
+// A book, answered into so many places.
+pub fn answer(rt: &impl Print, book: &[u8], places: u64) {
     let mut list = [show::MARK; RESULTS];
-    let length = least(count, bytes.len());
-    let room = least(places as usize, RESULTS);
-    let front: usize = 0;
-    answered(rt, &bytes[front..length], &mut list[front..room]);
+    let mut deals = show::MARK;
+    let lent = RESULTS.min(places as usize);
+    let refusal = hadlephoga::hadlephoga_answer_book(book, &mut list[..lent], &mut deals);
+    number(rt, "=", refusal);
+    number(rt, "", deals);
+    number(rt, " of", book.len() as u64);
+    text(rt, " bytes");
+    show::results(rt, &list[..lent]);
 }
 
-// A number that depends on each of so many bytes and on their order.
-pub fn sum(bytes: &[u8], count: usize) -> u64 {
-    let mut sum: u64 = 0;
-    for i in 0..least(count, bytes.len()) {
-        sum = sum % 1_000_000_007 * 31 + wide(bytes[i]) % 256;
-    }
-    sum
-}
-
-fn text_sum(text: &[u8; TEXT], count: usize) -> u64 {
-    sum(text, count)
-}
-
-// What the program crmbook prints for so many bytes.
-pub fn print(rt: &impl Print, bytes: &[u8], count: usize) {
+// What the program crmbook prints for a book.
+pub fn print(rt: &impl Print, book: &[u8]) {
     let mut results = [show::MARK; 8192];
     let mut out = [0u8; TEXT];
-    let length = least(count, bytes.len());
-    let front: usize = 0;
-    let printed = response::respond(&bytes[front..length], &mut results, &mut out);
-    number(rt, b"= printed", printed as u64);
-    number(rt, b" sum", text_sum(&out, printed));
-    number(rt, b" of", length as u64);
-    show::text(rt, b" bytes\n");
+    let printed = response::respond(book, &mut results, &mut out);
+    number(rt, "= printed", printed as u64);
+    number(rt, " sum", sum(&out[..printed]));
+    number(rt, " of", book.len() as u64);
+    text(rt, " bytes\n");
 }

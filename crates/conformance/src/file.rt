@@ -1,5 +1,5 @@
 // Files by name and ending.
-ghost use Rattle.std.specs.Prelude.{◌+◌, ◌≤◌, ◌≡◌, length};
+ghost use Rattle.std.specs.Prelude.{◌+◌, ◌≤◌, ◌≡◌, IfSome, length};
 ghost use Rattle.io.specs.Counts.{IsPrefixLen};
 
 use input::read_full;
@@ -10,31 +10,19 @@ const LONGEST_NAME: usize = 80;
 
 const LONGEST_ENDING: usize = 16;
 
-#[derive(Clone, Copy)]
-pub struct Content {
-    pub found: bool,
-    pub count: usize,
-}
-
 // These bytes, put here; where they end.
 fn put(path: &mut [u8], at: usize, bytes: &[u8]) -> usize
     requires { at + length bytes.now ≤ length path.old }
     ensures { (result ≡ at + length bytes.now) × IsPrefixLen result path.new }
 {
-    let mut i: usize = 0;
-    while i < bytes.len() {
-        path[at + i] = bytes[i];
-        i += 1;
-    }
-    at + i
+    let end = at + bytes.len();
+    path[at..end].copy_from_slice(bytes);
+    end
 }
 
 // Opens the file, if it is there and its name is text.
 fn open<R: Files>(rt: &R, name: &[u8], ending: &[u8]) -> Option<R::File> {
-    if name.len() > LONGEST_NAME {
-        return None;
-    }
-    if ending.len() > LONGEST_ENDING {
+    if name.len() > LONGEST_NAME || ending.len() > LONGEST_ENDING {
         return None;
     }
     let mut path = [0u8; LONGEST_NAME + LONGEST_ENDING];
@@ -44,16 +32,10 @@ fn open<R: Files>(rt: &R, name: &[u8], ending: &[u8]) -> Option<R::File> {
     File::open(rt, path).ok()
 }
 
-// Reads the file from its start, as far as there is room.
-pub fn read_file<R: Files>(rt: &R, name: &[u8], ending: &[u8], buffer: &mut [u8]) -> Content
-    ensures { IsPrefixLen result.count buffer.new }
+// Reads the file, if it is there, from its start, as far as there is room. How many bytes of the buffer are its own.
+pub fn read_file<R: Files>(rt: &R, name: &[u8], ending: &[u8], buffer: &mut [u8]) -> Option<usize>
+    ensures { IfSome result (λ count. IsPrefixLen count buffer.new) }
 {
-    let Some(mut file) = open(rt, name, ending) else {
-        return Content {
-            found: false,
-            count: 0,
-        };
-    };
-    let count = read_full(&mut file, buffer).unwrap_or_else(|cut| cut.count);
-    Content { found: true, count }
+    let mut file = open(rt, name, ending)?;
+    Some(read_full(&mut file, buffer).unwrap_or_else(|cut| cut.count))
 }

@@ -17,11 +17,9 @@ fn main(rt: HostRuntime) {
     let mut list = [0u64; 65536];
     let mut notice = [0u8; 1376285];
     let lengths = respond(&bytes[..count], &mut buffer, &mut list, &mut notice);
-    let book = lengths.book;
-    let said = lengths.notice;
-    if rt.write_all(&buffer[..book]).is_err() {
+    if rt.write_all(&buffer[..lengths.book]).is_err() {
         let _ = eprintln!(rt; "crmrepair: the book cannot be written");
         return;
     }
-    let _ = rt.stderr().write_all(&notice[..said]);
+    let _ = rt.stderr().write_all(&notice[..lengths.notice]);
 }

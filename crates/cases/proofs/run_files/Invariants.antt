@@ -1,5 +1,5 @@
-use Rattle.std.proofs.Common.{◌≤◌}
+use Rattle.std.proofs.Common.{length}
 use Rattle.cases.proofs.run_files.Given as goal
 
-abbrev pub invariant-loop-i : goal.invariant-loop-i
-invariant-loop-i g l = l.start ≤ l.i
+abbrev pub decreases-loop-name : goal.decreases-loop-name
+decreases-loop-name g l = length l.left
