@@ -3,7 +3,7 @@ use Prim.Native.Nat.{ℕ, zero, suc}
 use mathlib.Core.Path.{◌≡◌, refl}
 use mathlib.Core.List.{List, [], ◌∷◌, ◌++◌}
 use lib.ListN.{get_or, length, replicate}
-use Rattle.deal.specs.Answers.{answer_number}
+use Rattle.deal.specs.Answers.{answer_number, refusal_number}
 use Rattle.deal.specs.Adding.{add_collateral_refusal, add_collateral_tests, add_guarantee_refusal, add_guarantee_tests, with_collateral, with_guarantee}
 use Rattle.deal.specs.Fields.{collateral_in, collateral_width, guarantee_in, guarantee_width, sent_guarantee_width, sent_swap_width, terms_in, terms_width, zero_collateral, zero_guarantee}
 use Rattle.deal.specs.Collateral.{collateral_list_tests}
@@ -31,12 +31,12 @@ example =
 example_reported :
     (reporting_refusal example 212 ≡ 0)
     × (list_after example (replicate 212 7) ≡ 611314 ∷ 388686 ∷ 0 ∷ 11314 ∷ (replicate 93 0 ++ 200000 ∷ 0 ∷ 0 ∷ 0 ∷ 0 ∷ 0 ∷ 200000 ∷ (replicate 105 0 ++ 411314 ∷ 411314 ∷ 7 ∷ [])))
-unfolding computed reporting_refusal list_after report_numbers report_in deal_in slices in_order answer_number
+unfolding computed reporting_refusal list_after report_numbers report_in deal_in slices in_order answer_number refusal_number
 example_reported = (refl, refl)
 
 -- numbers that are no record, and a list with one place too few
 not_reported : (reporting_refusal (0 ∷ example) 211 ≡ 40) × (list_after (0 ∷ example) (replicate 211 7) ≡ replicate 211 0) × (reporting_refusal example 210 ≡ 13) × (list_after example (replicate 210 7) ≡ replicate 210 7)
-unfolding computed reporting_refusal list_after report_numbers report_in in_order outcome_valuation outcome_ground outcome_left_out answer_number
+unfolding computed reporting_refusal list_after report_numbers report_in in_order outcome_valuation outcome_ground outcome_left_out answer_number refusal_number
 not_reported = (refl, refl, refl, refl)
 
 -- the same deal, opened, and its items added
@@ -107,7 +107,7 @@ longest_built = refl
 longest_reported :
     (reporting_refusal longest 211 ≡ 0)
     × (list_after longest (replicate 211 7) ≡ 679197 ∷ 377372 ∷ 0 ∷ 22628 ∷ (replicate 93 0 ++ 200000 ∷ 0 ∷ 0 ∷ 0 ∷ 0 ∷ 0 ∷ 200000 ∷ (replicate 105 0 ++ 479197 ∷ 479197 ∷ [])))
-unfolding computed reporting_refusal list_after report_numbers report_in deal_in slices in_order answer_number
+unfolding computed reporting_refusal list_after report_numbers report_in deal_in slices in_order answer_number refusal_number
 longest_reported = (refl, refl)
 
 -- so many numbers, counted up
@@ -167,7 +167,7 @@ floored_reported :
     × (list_after (floored 1) (replicate 211 7) ≡ 1000 ∷ (replicate 96 0 ++ 0 ∷ 29 ∷ 0 ∷ 0 ∷ 0 ∷ 600 ∷ 0 ∷ (replicate 105 0 ++ 1000 ∷ 500 ∷ [])))
     × (list_after (floored 3) (replicate 211 7) ≡ 1000 ∷ (replicate 96 0 ++ 0 ∷ 29 ∷ 0 ∷ 0 ∷ 0 ∷ 600 ∷ 0 ∷ (replicate 105 0 ++ 1000 ∷ 1500 ∷ [])))
     × (floored 4 ≡ replicate 366 0)
-unfolding built computed reporting_refusal list_after report_numbers report_in deal_in slices in_order answer_number
+unfolding built computed reporting_refusal list_after report_numbers report_in deal_in slices in_order answer_number refusal_number
 floored_reported = (refl, refl, refl, refl)
 
 -- SWAPS ON NUMBERS. 02: L1
@@ -199,5 +199,5 @@ swap_reported :
     × (adding_swap_refusal example (0 ∷ bond) ≡ 11)
     × (adding_guarantee_refusal example (2000 ∷ 1 ∷ 1 ∷ 0 ∷ 840 ∷ 1800 ∷ 1800 ∷ 1 ∷ 1 ∷ 1 ∷ 0 ∷ []) ≡ 11)
     × (adding_swap_refusal (0 ∷ example) (replicate 11 0) ≡ 40)
-unfolding built computed reporting_refusal list_after report_numbers report_in deal_in slices in_order answer_number
+unfolding built computed reporting_refusal list_after report_numbers report_in deal_in slices in_order answer_number refusal_number
 swap_reported = (refl, refl, refl, refl, refl, refl, refl, refl, refl, refl, refl, refl)

@@ -22,6 +22,14 @@ module _ {A : Type 0} (f : A → List ℕ) where
   in_order_next : (d : A) (i : ℕ) (xs : List A) → i < length xs → in_order f (take (i + 1) xs) ≡ in_order f (take i xs) ++ f (get_or xs i d)
   in_order_next d i xs h = rw add-one (next d i xs h)
 
+  -- those of the first ones are no more than all
+  in_order_part : (i : ℕ) (xs : List A) → length (in_order f (take i xs)) ≤ length (in_order f xs)
+  unfolding in_order
+  in_order_part zero [] = omega arith
+  in_order_part (suc i) [] = omega arith
+  in_order_part zero (x ∷ xs) = omega arith
+  in_order_part (suc i) (x ∷ xs) = omega (arith, lib.ListN.length-append (f x) (in_order f (take i xs)), lib.ListN.length-append (f x) (in_order f xs), in_order_part i xs)
+
   -- so many numbers for each
   pub length_in_order : (width : ℕ) → ((x : A) → length (f x) ≡ width) → (xs : List A) → length (in_order f xs) ≡ length xs * width
   unfolding in_order
@@ -29,28 +37,36 @@ module _ {A : Type 0} (f : A → List ℕ) where
   length_in_order width each (x ∷ xs) = omega (arith, lib.ListN.length-append (f x) (in_order f xs), each x, length_in_order width each xs)
 
   -- the numbers of the first i elements are put, from this place on
-  pub record Put (width : ℕ) (xs : List A) (before : List ℕ) (at : ℕ) (list : List ℕ) (place i : ℕ) : Type 0 where
+  pub record Put (xs : List A) (before : List ℕ) (at : ℕ) (list : List ℕ) (place i : ℕ) : Type 0 where
     pub inside : i ≤ length xs
-    pub behind : place ≡ at + i * width
     pub same : length list ≡ length before
     pub held : Placed at (in_order f (take i xs)) before list place
 
-  pub put_none : (width : ℕ) (xs : List A) (before : List ℕ) (at : ℕ) → Put width xs before at before at 0
+  pub put_none : (xs : List A) (before : List ℕ) (at : ℕ) → Put xs before at before at 0
   unfolding in_order
-  put_none width xs before at = record { inside = omega arith; behind = omega arith; same = refl; held = placed_none at before }
+  put_none xs before at = record { inside = omega arith; same = refl; held = placed_none at before }
 
-  pub put_next : {width : ℕ} {xs : List A} {before : List ℕ} {at : ℕ} {list : List ℕ} {place i : ℕ} → Put width xs before at list place i →
-      (d : A) {after : List ℕ} {end : ℕ} → i < length xs → at ≤ length before → length (f (get_or xs i d)) ≡ width → length after ≡ length list →
-      Placed place (f (get_or xs i d)) list after end → Put width xs before at after end (i + 1)
-  put_next {width} {xs} {before} {at} {list} {place} {i} p d {after} {end} h r w s q =
+  -- with the item that stands there
+  in_order_item : (x : A) (i : ℕ) (xs : List A) → i < length xs → x ≡ get_or xs i x → in_order f (take (i + 1) xs) ≡ in_order f (take i xs) ++ f x
+  in_order_item x i xs h e = in_order_next x i xs h ∙ ap (λ y. in_order f (take i xs) ++ f y) (sym e)
+
+  -- the next item's numbers have room
+  pub put_room : {xs : List A} {before : List ℕ} {at : ℕ} {list : List ℕ} {place i : ℕ} → Put xs before at list place i → (x : A) → x ≡ get_or xs i x → i < length xs →
+      at + length (in_order f xs) ≤ length before → place + length (f x) ≤ length list
+  put_room {xs} {i = i} p x e h room =
+      omega (arith, p.same, p.held.ends, ap length (in_order_item x i xs h e), lib.ListN.length-append (in_order f (take i xs)) (f x), in_order_part (i + 1) xs, room)
+
+  pub put_next : {xs : List A} {before : List ℕ} {at : ℕ} {list : List ℕ} {place i : ℕ} → Put xs before at list place i →
+      (x : A) {after : List ℕ} {end : ℕ} → x ≡ get_or xs i x → i < length xs → at ≤ length before → length after ≡ length list →
+      Placed place (f x) list after end → Put xs before at after end (i + 1)
+  put_next {xs} {before} {at} {list} {place} {i} p x {after} {end} e h r s q =
       record {
         inside = omega arith;
-        behind = omega (arith, p.behind, q.ends, w);
         same = s ∙ p.same;
-        held = rw (in_order_next d i xs h) (placed_joined at _ _ before list after place end r p.held q);
+        held = rw (in_order_item x i xs h e) (placed_joined at _ _ before list after place end r p.held q);
       }
 
-  pub put_all : {width : ℕ} {xs : List A} {before : List ℕ} {at : ℕ} {list : List ℕ} {place i : ℕ} → Put width xs before at list place i → i ≡ length xs →
+  pub put_all : {xs : List A} {before : List ℕ} {at : ℕ} {list : List ℕ} {place i : ℕ} → Put xs before at list place i → i ≡ length xs →
       Placed at (in_order f xs) before list place
   put_all {xs = xs} {i = i} p e =
       let all : take i xs ≡ xs = take_all i xs (omega (arith, e)) in

@@ -2,13 +2,13 @@
 use Rattle.std.proofs.Common.{if◌then◌else◌}
 use Prim.Native.Nat.{ℕ}
 use mathlib.Core.Path.{◌≡◌, refl, sym, ap, ◌∙◌}
-use mathlib.Core.Bool.{false}
-use mathlib.Core.List.{List}
+use mathlib.Core.Bool.{Bool, true, false, not}
+use mathlib.Core.List.{List, [], ◌∷◌}
 use lib.Dec.{eqb}
 use lib.ListN.{length, length-set, replicate}
 use borrow.Author.Tests.{eq-eqb}
-use Rattle.base.specs.FirstMet.{Test, first_met}
-use Rattle.base.proofs.Choice.{either, if_false, if_true}
+use Rattle.base.specs.FirstMet.{Test, ◌when◌, first_met, first_or}
+use Rattle.base.proofs.Choice.{either, if_false, if_true, never}
 use Rattle.base.proofs.FirstMet.{met_first, not_met}
 use Rattle.base.proofs.Tests.{not_false, not_true}
 use Rattle.deal.specs.Adding.{add_collateral_refusal, add_collateral_tests, add_guarantee_refusal, add_guarantee_tests, with_collateral, with_guarantee}
@@ -38,6 +38,10 @@ module _ (terms : List ℕ) where
   pub opened_11 : eqb (length terms) terms_width ≡ false → opened_numbers terms ≡ replicate record_length 0
   unfolding opened_numbers
   opened_11 e = if_false (eqb (first_met (opening_tests terms)) 0) _ _ (rw (opening_11 e) refl)
+
+  pub opened_none : {n : ℕ} → eqb n 0 ≡ false → n ≡ first_met (opening_tests terms) → opened_numbers terms ≡ replicate record_length 0
+  unfolding opened_numbers
+  opened_none some e = if_false (eqb (first_met (opening_tests terms)) 0) _ _ (ap (λ m. eqb m 0) (sym e) ∙ some)
 
   -- numbers that are terms: opening decides
   pub opening_by_terms : length terms ≡ terms_width → first_met (opening_tests terms) ≡ terms_refusal (terms_in terms)
@@ -70,11 +74,20 @@ module _ (width : ℕ) (numbers item : List ℕ) (tests : List (Test ℕ)) where
   abbrev changed : List ℕ → List ℕ
   changed after = if eqb (adding_refusal width numbers item tests) 0 then after else numbers
 
-  pub kept_11 : (after : List ℕ) → eqb (length item) width ≡ false → changed after ≡ numbers
-  kept_11 after e = if_false (eqb (adding_refusal width numbers item tests) 0) _ _ (rw (adding_11 e) refl)
+  -- what comes before the operation's own tests, where it is met
+  pub adding_before : {n : ℕ} → eqb n 0 ≡ false → n ≡ first_met (11 when not (eqb (length item) width) ∷ 40 when not (eqb (length numbers) record_length) ∷ []) →
+      adding_refusal width numbers item tests ≡ n
+  unfolding adding_refusal first_or
+  adding_before {n} some e = go (not (eqb (length item) width)) (not (eqb (length numbers) record_length)) e
+    where
+      go : (a b : Bool) → n ≡ (if a then 11 else if b then 40 else 0) → (if a then 11 else if b then 40 else first_met tests) ≡ n
+      go true b e = sym e
+      go false true e = sym e
+      go false false e = absurd (never (ap (λ m. eqb m 0) e) some)
 
-  pub kept_40 : (after : List ℕ) → length item ≡ width → eqb (length numbers) record_length ≡ false → changed after ≡ numbers
-  kept_40 after e q = if_false (eqb (adding_refusal width numbers item tests) 0) _ _ (rw (adding_40 e q) refl)
+  pub kept_before : (after : List ℕ) {n : ℕ} → eqb n 0 ≡ false → n ≡ first_met (11 when not (eqb (length item) width) ∷ 40 when not (eqb (length numbers) record_length) ∷ []) →
+      changed after ≡ numbers
+  kept_before after some e = if_false (eqb (adding_refusal width numbers item tests) 0) _ _ (ap (λ m. eqb m 0) (adding_before some e) ∙ some)
 
   -- whatever adding answers, they are then the numbers of the deal that it gives
   changed_numbers : length item ≡ width → length numbers ≡ record_length → (after : Deal) → (eqb (first_met tests) 0 ≡ false → after ≡ deal_in numbers) →

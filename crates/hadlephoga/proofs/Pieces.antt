@@ -4,7 +4,7 @@ use mathlib.Core.Path.{◌≡◌, refl, sym, ap, ◌∙◌}
 use mathlib.Core.List.{List, [], ◌∷◌, map, ◌++◌, append-nil}
 use native.Mathlib.Nat.{le_of_suc-le-suc, not-suc-le-zero}
 use native.Mathlib.Omega.{arith}
-use lib.ListN.{length, take, drop, get_or, set, replicate, length-drop, length-map, length-replicate, take-append-drop, drop_of_length-le}
+use lib.ListN.{length, take, drop, get_or, set, replicate, length-drop, length-replicate, take-append-drop, drop_of_length-le}
 use lib.Seq.{drop_at, drop-drop, length-take-le, take_all, take_at}
 use Rattle.base.proofs.Places.{fill_more}
 use Rattle.hadlephoga.specs.Records.{in_order, slices}

@@ -7,7 +7,7 @@ use lib.ListN.{length, replicate}
 use borrow.Author.Tests.{eq-eqb, le-ltb, ne_eqb}
 use Rattle.base.specs.Writing.{overwrite}
 use Rattle.base.proofs.Choice.{if_false, if_true}
-use Rattle.deal.specs.Answers.{answer_number}
+use Rattle.deal.specs.Answers.{answer_number, refusal_number}
 use Rattle.relief.specs.Grounds.{ground_number}
 use Rattle.relief.specs.Outcomes.{outcome_ground, outcome_left_out, outcome_valuation}
 use Rattle.relief.specs.Report.{refused_report, report_of}
@@ -73,11 +73,11 @@ list_no_record numbers before e h =
     rw (if_false _ (report_of (deal_in numbers)) _ (ne_eqb (length numbers) record_length e)) (if_false _ _ _ (le-ltb (length before) report_length h))
 
 pub answer_no_record : (numbers : List ℕ) (places : ℕ) → length numbers ≢ record_length → report_length ≤ places → reporting_refusal numbers places ≡ 40
-unfolding reporting_refusal report_in answer_number
+unfolding reporting_refusal report_in answer_number refusal_number
 answer_no_record numbers places e h =
     rw (if_false _ (report_of (deal_in numbers)) refused_report (ne_eqb (length numbers) record_length e)) (if_false _ _ _ (le-ltb places report_length h))
 
 -- so is a record of zeros
 zeros_reported : (reporting_refusal (replicate 366 0) 212 ≡ 40) × (list_after (replicate 366 0) (replicate 212 7) ≡ replicate 211 0 ++ 7 ∷ [])
-unfolding computed reporting_refusal list_after report_numbers report_in deal_in slices in_order answer_number
+unfolding computed reporting_refusal list_after report_numbers report_in deal_in slices in_order answer_number refusal_number
 zeros_reported = (refl, refl)

@@ -48,9 +48,16 @@ pub fn hadlephoga_answer_book(book: &[u8], results: &mut [u64], deals: &mut u64)
     ensures deals_after { deals.new ≡ (book_reply book.now (length results.old)).deals }
     ensures results_after { results.new ≡ results_after book.now results.old }
 {
-    let reply = answer_book(book, results);
-    *deals = reply.deals as u64;
-    reply.refusal
+    match answer_book(book, results) {
+        Ok(count) => {
+            *deals = count as u64;
+            0
+        }
+        Err(refusal) => {
+            *deals = 0;
+            refusal.number()
+        }
+    }
 }
 
 // Repairing a book that came by mail: the refusal or 0, both lengths beside it, the book's bytes in the buffer, and the numbers of its
@@ -143,7 +150,9 @@ pub fn hadlephoga_report_deal(numbers: &[u64], report: &mut [u64]) -> u64
         return LIST_TOO_SHORT;
     }
     let reported = report_in(numbers);
-    let answer = reported.answer;
     put_report(report, reported);
-    answer.number()
+    match reported.answer {
+        Ok(()) => 0,
+        Err(refusal) => refusal.number(),
+    }
 }

@@ -12,6 +12,7 @@ use deal::fields::{
 };
 use deal::guarantee::{Guarantee, GuaranteeList};
 use relief::report::Report;
+use std::array;
 
 // The numbers of a list's places.
 const COLLATERAL_LENGTH: usize = Deal::COLLATERAL_LIMIT * COLLATERAL_WIDTH;
@@ -33,56 +34,40 @@ fn collateral_items(numbers: &[u64]) -> [Collateral; Deal::COLLATERAL_LIMIT]
     requires { length numbers.now ≡ collateral_length }
     ensures { result ≡ map collateral_in (slices collateral_width list_limit numbers.now) }
 {
-    let mut items = [Collateral::ZERO; Deal::COLLATERAL_LIMIT];
-    let mut i: usize = 0;
-    while i < Deal::COLLATERAL_LIMIT {
+    array::from_fn(|i| {
         let at = i * COLLATERAL_WIDTH;
-        let end = at + COLLATERAL_WIDTH;
-        items[i] = collateral_in(&numbers[at..end]);
-        i += 1;
-    }
-    items
+        collateral_in(&numbers[at..at + COLLATERAL_WIDTH])
+    })
 }
 
 fn guarantee_items(numbers: &[u64]) -> [Guarantee; Deal::GUARANTEE_LIMIT]
     requires { length numbers.now ≡ guarantees_length }
     ensures { result ≡ map guarantee_in (slices guarantee_width list_limit numbers.now) }
 {
-    let mut items = [Guarantee::ZERO; Deal::GUARANTEE_LIMIT];
-    let mut i: usize = 0;
-    while i < Deal::GUARANTEE_LIMIT {
+    array::from_fn(|i| {
         let at = i * GUARANTEE_WIDTH;
-        let end = at + GUARANTEE_WIDTH;
-        items[i] = guarantee_in(&numbers[at..end]);
-        i += 1;
-    }
-    items
+        guarantee_in(&numbers[at..at + GUARANTEE_WIDTH])
+    })
 }
 
 pub fn deal_in(numbers: &[u64]) -> Deal
     requires { length numbers.now ≡ record_length }
     ensures { result ≡ deal_in numbers.now }
 {
-    let terms_end: usize = TERMS_WIDTH;
-    let terms = terms_in(&numbers[..terms_end]);
-    let first: usize = FIRST_COLLATERAL;
-    let end: usize = GUARANTEE_COUNT;
-    let pledged = collateral_items(&numbers[first..end]);
-    let first: usize = FIRST_GUARANTEE;
-    let guaranteed = guarantee_items(&numbers[first..]);
     Deal {
-        terms,
+        terms: terms_in(&numbers[..TERMS_WIDTH]),
         collateral: CollateralList {
-            items: pledged,
+            items: collateral_items(&numbers[FIRST_COLLATERAL..GUARANTEE_COUNT]),
             count: numbers[COLLATERAL_COUNT] as usize,
         },
         guarantees: GuaranteeList {
-            items: guaranteed,
+            items: guarantee_items(&numbers[FIRST_GUARANTEE..]),
             count: numbers[GUARANTEE_COUNT] as usize,
         },
     }
 }
 
+#[tactic(auto, unfolding(crate::specs::Reports::report_in))]
 // The report of the record that these numbers are; where they are no record, the reply to a record that is not accepted.
 pub fn report_in(numbers: &[u64]) -> Report
     ensures { result ≡ report_in numbers.now }

@@ -1,10 +1,9 @@
 // A report's numbers, put into a lent list.
-ghost use Rattle.std.specs.Prelude.{◌+◌, ◌≤◌, ◌≡◌, length};
-ghost use Rattle.base.specs.Writing.{overwrite, Placed};
-ghost use Rattle.hadlephoga.specs.Records.{in_order};
-ghost use Rattle.hadlephoga.specs.Reports.{collateral_numbers, guarantee_report_width, guarantee_reports_length, guarantee_numbers, outcome_width, collateral_reports_length, outcome_numbers, report_length, report_numbers};
+ghost use Rattle.std.specs.Prelude.{◌≤◌, ◌≡◌, length};
+ghost use Rattle.base.specs.Writing.{overwrite};
+ghost use Rattle.hadlephoga.specs.Reports.{collateral_numbers, guarantee_numbers, outcome_numbers, report_length, report_numbers};
 
-use crate::lent::{put_number, put_numbers};
+use crate::lent::{Numbered, put_each, put_number, put_numbers};
 use deal::deal::Deal;
 use relief::collateral::CollateralReport;
 use relief::guarantee::GuaranteeReport;
@@ -38,59 +37,22 @@ fn outcome_numbers(outcome: Outcome) -> [u64; OUTCOME_WIDTH]
     ]
 }
 
-fn put_outcome(list: &mut [u64], at: usize, outcome: Outcome) -> usize
-    requires { at + outcome_width ≤ length list.old }
-    ensures { Placed at (outcome_numbers outcome) list.old list.new result }
-{
-    let numbers = outcome_numbers(outcome);
-    put_numbers(list, at, &numbers)
-}
+impl Numbered for CollateralReport {
+    ghost numbers = { collateral_numbers };
 
-fn put_collateral(
-    list: &mut [u64],
-    at: usize,
-    reports: [CollateralReport; Deal::COLLATERAL_LIMIT],
-) -> usize
-    requires { at + collateral_reports_length ≤ length list.old }
-    ensures { Placed at (in_order collateral_numbers reports) list.old list.new result }
-{
-    let mut place = at;
-    let mut i: usize = 0;
-    while i < Deal::COLLATERAL_LIMIT {
-        let report = reports[i];
-        let outcome = report.outcome;
-        place = put_outcome(list, place, outcome);
-        i += 1;
+    fn put(self, list: &mut [u64], at: usize) -> usize {
+        put_numbers(list, at, &outcome_numbers(self.outcome))
     }
-    place
 }
 
-// The outcome and the portion.
-fn put_guarantee(list: &mut [u64], at: usize, report: GuaranteeReport) -> usize
-    requires { at + guarantee_report_width ≤ length list.old }
-    ensures { Placed at (guarantee_numbers report) list.old list.new result }
-{
-    let outcome = report.outcome;
-    let next = put_outcome(list, at, outcome);
-    put_number(list, next, report.portion)
-}
+// Its outcome, and its portion.
+impl Numbered for GuaranteeReport {
+    ghost numbers = { guarantee_numbers };
 
-fn put_guarantees(
-    list: &mut [u64],
-    at: usize,
-    reports: [GuaranteeReport; Deal::GUARANTEE_LIMIT],
-) -> usize
-    requires { at + guarantee_reports_length ≤ length list.old }
-    ensures { Placed at (in_order guarantee_numbers reports) list.old list.new result }
-{
-    let mut place = at;
-    let mut i: usize = 0;
-    while i < Deal::GUARANTEE_LIMIT {
-        let report = reports[i];
-        place = put_guarantee(list, place, report);
-        i += 1;
+    fn put(self, list: &mut [u64], at: usize) -> usize {
+        let next = put_numbers(list, at, &outcome_numbers(self.outcome));
+        put_number(list, next, self.portion)
     }
-    place
 }
 
 // From the front of the list.
@@ -100,9 +62,9 @@ pub fn put_report(list: &mut [u64], report: Report)
 {
     let next = put_number(list, 0, report.exposure);
     let pledged = report.collateral;
-    let next = put_collateral(list, next, pledged);
+    let next = put_each(list, next, &pledged);
     let guaranteed = report.guarantees;
-    let next = put_guarantees(list, next, guaranteed);
+    let next = put_each(list, next, &guaranteed);
     let next = put_number(list, next, report.uncovered);
     put_number(list, next, report.rwa);
 }

@@ -7,12 +7,15 @@ ghost use Rattle.signed.specs.Signed.{ceiling};
 
 const WHOLE: i64 = 1_000_000;
 
-// A number without its sign.
+// A number without its sign, by negation: the form that the project names for a net.
 pub fn absolute(x: i64) -> u64
     requires { nat_abs x ≤ 4000000000000000000 }
     ensures { result ≡ nat_abs x }
 {
-    x.unsigned_abs()
+    if x < 0 {
+        return (-x) as u64;
+    }
+    x as u64
 }
 
 // Millionths as a whole number, rounded up. Division drops the fraction, and below zero that is up.

@@ -17,7 +17,8 @@ pub fn eligible(goods: u64, step: u64, listed: u64) -> bool
         OTHER_DEBT | SECURITISATION => matches!(step, 1..=3),
         BANK_DEBT => match step {
             0 => listed == 1,
-            _ => step <= 3,
+            1..=3 => true,
+            _ => false,
         },
         _ => false,
     }
