@@ -13,7 +13,7 @@ use Rattle.base.proofs.FirstMet.{exact, first_holds, met_first}
 use Rattle.base.proofs.Tests.{not_true, told_not_false}
 use Rattle.deal.specs.Instruments.{as_swap}
 use Rattle.deal.specs.Adding.{add_collateral_refusal, add_collateral_tests, add_guarantee_refusal, add_guarantee_tests, with_collateral, with_guarantee}
-use Rattle.deal.specs.Answers.{answer_number}
+use Rattle.deal.specs.Answers.{answer_number, refusal_number}
 use Rattle.deal.specs.Assets.{asset_step_allowed, life_allowed}
 use Rattle.deal.specs.Checks.{field_tests}
 use Rattle.deal.specs.Collateral.{append_collateral, collateral_list_allowed, collateral_list_refusal, collateral_list_tests, collateral_refusal, collateral_tests}
@@ -188,7 +188,7 @@ unfolding report_refusal
 report_due d = (λ h. told_not_false (accepted d) (accepted d) refl (((exact (40 when not (accepted d) ∷ []) refl).0 40 refl).0 h), λ h. met_first 40 _ _ (not_true (accepted d) h))
 
 report_said : (d : Deal) → answer_number (report_of d).answer ≡ report_refusal d
-unfolding answer_number full_report
+unfolding answer_number refusal_number full_report
 report_said d = go (accepted d) refl
   where
     go : (b : Bool) → accepted d ≡ b → answer_number (report_of d).answer ≡ report_refusal d

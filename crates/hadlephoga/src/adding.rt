@@ -30,51 +30,39 @@ fn deal_for(numbers: &[u64], item: &[u64], width: usize) -> Result<Deal, LineRef
     Ok(deal_in(numbers))
 }
 
-// The answer's number; the deal is put where nothing was refused.
-fn put_reply(numbers: &mut [u64], reply: Added<Deal>) -> u64
+// The deal is put where nothing was refused.
+fn put_reply(numbers: &mut [u64], reply: Added<Deal>) -> Result<(), LineRefusal>
     requires { length numbers.old ≡ record_length }
-    ensures value { result ≡ answer_number reply.answer }
+    ensures value { line_answer_number result ≡ answer_number reply.answer }
     ensures numbers_after { numbers.new ≡ (if eqb (answer_number reply.answer) 0 then deal_numbers reply.after else numbers.old) }
 {
-    match reply.answer {
-        Ok(()) => {
-            let deal = reply.after;
-            put_record(numbers, deal);
-            0
-        }
-        Err(refusal) => refusal.number(),
-    }
+    reply.answer?;
+    let deal = reply.after;
+    put_record(numbers, deal);
+    Ok(())
 }
 
-pub fn add_collateral(numbers: &mut [u64], item: &[u64]) -> u64
-    ensures value { result ≡ adding_collateral_refusal numbers.old item.now }
+pub fn add_collateral(numbers: &mut [u64], item: &[u64]) -> Result<(), LineRefusal>
+    ensures value { line_answer_number result ≡ adding_collateral_refusal numbers.old item.now }
     ensures numbers_after { numbers.new ≡ numbers_with_collateral numbers.old item.now }
 {
-    match deal_for(numbers, item, COLLATERAL_WIDTH) {
-        Ok(deal) => put_reply(numbers, deal.add_collateral(collateral_in(item))),
-        Err(refusal) => refusal.number(),
-    }
+    let deal = deal_for(numbers, item, COLLATERAL_WIDTH)?;
+    put_reply(numbers, deal.add_collateral(collateral_in(item)))
 }
 
-pub fn add_guarantee(numbers: &mut [u64], item: &[u64]) -> u64
-    ensures value { result ≡ adding_guarantee_refusal numbers.old item.now }
+pub fn add_guarantee(numbers: &mut [u64], item: &[u64]) -> Result<(), LineRefusal>
+    ensures value { line_answer_number result ≡ adding_guarantee_refusal numbers.old item.now }
     ensures numbers_after { numbers.new ≡ numbers_with_guarantee numbers.old item.now }
 {
-    match deal_for(numbers, item, SENT_GUARANTEE_WIDTH) {
-        Ok(deal) => put_reply(numbers, deal.add_guarantee(guarantee_sent(item))),
-        Err(refusal) => refusal.number(),
-    }
+    let deal = deal_for(numbers, item, SENT_GUARANTEE_WIDTH)?;
+    put_reply(numbers, deal.add_guarantee(guarantee_sent(item)))
 }
 
-pub fn add_swap(numbers: &mut [u64], item: &[u64]) -> u64
-    ensures value { result ≡ adding_swap_refusal numbers.old item.now }
+pub fn add_swap(numbers: &mut [u64], item: &[u64]) -> Result<(), LineRefusal>
+    ensures value { line_answer_number result ≡ adding_swap_refusal numbers.old item.now }
     ensures numbers_after { numbers.new ≡ numbers_with_swap numbers.old item.now }
 {
-    match deal_for(numbers, item, SENT_SWAP_WIDTH) {
-        Ok(deal) => {
-            let restructuring = item[SENT_GUARANTEE_WIDTH];
-            put_reply(numbers, deal.add_swap(guarantee_sent(item), restructuring))
-        }
-        Err(refusal) => refusal.number(),
-    }
+    let deal = deal_for(numbers, item, SENT_SWAP_WIDTH)?;
+    let restructuring = item[SENT_GUARANTEE_WIDTH];
+    put_reply(numbers, deal.add_swap(guarantee_sent(item), restructuring))
 }

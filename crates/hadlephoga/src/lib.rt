@@ -6,6 +6,7 @@
 
 ghost use Rattle.std.specs.Prelude.{◌≡◌, length};
 ghost use Rattle.book.specs.Book.{book_reply, results_after};
+ghost use Rattle.book.specs.Reply.{line_answer_number};
 ghost use Rattle.mail.specs.Reply.{buffer_after, numbers_after, repair_reply};
 ghost use Rattle.hadlephoga.specs.Layout.{layout};
 ghost use Rattle.hadlephoga.specs.Netting.{netting_reply};
@@ -23,6 +24,7 @@ mod writing;
 use crate::sets::net_numbers;
 use adding::{add_collateral, add_guarantee, add_swap};
 use book::answer::answer_book;
+use book::refusal::LineRefusal;
 use mail::repair_book;
 use opening::open_record;
 use record::report_in;
@@ -34,6 +36,17 @@ const MALFORMED: u64 = 11;
 const LIST_TOO_SHORT: u64 = 13;
 
 const LAYOUT: u64 = 4;
+
+// The number that an answer is sent as: its refusal's, or 0.
+#[tactic(auto, unfolding(book::specs::Reply::line_answer_number))]
+fn number(answer: Result<(), LineRefusal>) -> u64
+    ensures { result ≡ line_answer_number answer }
+{
+    match answer {
+        Ok(()) => 0,
+        Err(refusal) => refusal.number(),
+    }
+}
 
 // The number of the layout of all lists of numbers below. A caller built for another one must not go on.
 pub fn hadlephoga_layout() -> u64
@@ -122,7 +135,7 @@ pub fn hadlephoga_add_collateral(record: &mut [u64], item: &[u64]) -> u64
     ensures value { result ≡ adding_collateral_refusal «record».old item.now }
     ensures record_after { «record».new ≡ numbers_with_collateral «record».old item.now }
 {
-    add_collateral(record, item)
+    number(add_collateral(record, item))
 }
 
 // Adding a guarantee, likewise.
@@ -130,7 +143,7 @@ pub fn hadlephoga_add_guarantee(record: &mut [u64], item: &[u64]) -> u64
     ensures value { result ≡ adding_guarantee_refusal «record».old item.now }
     ensures record_after { «record».new ≡ numbers_with_guarantee «record».old item.now }
 {
-    add_guarantee(record, item)
+    number(add_guarantee(record, item))
 }
 
 // Adding a swap, likewise: the numbers of a guarantee, and whether restructuring is a credit event.
@@ -138,7 +151,7 @@ pub fn hadlephoga_add_swap(record: &mut [u64], item: &[u64]) -> u64
     ensures value { result ≡ adding_swap_refusal «record».old item.now }
     ensures record_after { «record».new ≡ numbers_with_swap «record».old item.now }
 {
-    add_swap(record, item)
+    number(add_swap(record, item))
 }
 
 // Reporting a deal: 13 where the list is too short for a report, otherwise the refusal or 0, and the report's numbers in the list.
