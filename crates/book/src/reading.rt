@@ -1,4 +1,5 @@
-// Reading a deal: its lines up to the next deal's first one, and its answer.
+// Reading a deal: its lines up to the next deal's first one, and its answer. The whole text and a place in it go along, and no rest of it: the
+// places and numbers that come out are promised of that text (`LinesRead`).
 ghost use Rattle.std.specs.Prelude.{true, ◌≡◌, ◌+◌, ◌≤◌, drop, length};
 ghost use Rattle.text.specs.Text.{lines_of};
 ghost use Rattle.deal.specs.Opening.{opened_deal};
@@ -100,7 +101,8 @@ fn refused(text: &[u8], start: usize, number: u64, refusal: LineRefusal) -> Deal
     }
 }
 
-// A deal opened on these terms by the line with this number, from its further lines on. Each goes into its list as adding does it.
+// A deal opened on these terms by the line with this number, from its further lines on. Each goes into its list as adding does it. By a place,
+// as above.
 fn with_items(text: &[u8], start: usize, number: u64, deal: &TimedTerms) -> DealResult
     requires { (start ≤ length text.now) × (number + 1 + length text.now ≤ 65536 + start) }
     ensures lines_read { LinesRead text.now start (number + 1) result.end result.next }

@@ -1,6 +1,7 @@
 -- The laws of answers and their numbers. Assumes nothing.
 use Rattle.std.specs.Prelude.{ℕ, ◌≡◌, Bool, [], ◌∷◌, get_or, eqb, Result, Ok, Err, ⊤, is_ok}
 use mathlib.Core.Path.{refl, sym, ap, ◌∙◌}
+use mathlib.Core.List.{map}
 use Rattle.deal.specs.Answers.{answer_number, refusal_number}
 use Rattle.deal.specs.declared.refusal.Refusal.{Refusal}
 use Rattle.deal.specs.declared.refusal.Refusal.TheVariants.{AmountAboveLimit, UnknownCode, WrongStep, WrongCurrency, OutsideRange, ListFull, ResidualAboveOriginal, WrongCondition, RecordNotAccepted}
@@ -56,3 +57,21 @@ back (Err RecordNotAccepted) = refl
 -- a number is that of one answer, so a promise about the number determines the answer
 pub number_unique : (a b : Result ⊤ Refusal) → answer_number a ≡ answer_number b → a ≡ b
 number_unique a b e = sym (back a) ∙ ap answer_of e ∙ back b
+
+-- the numbers of 01, in its order
+numbers : map (λ answer. answer_number {A = ⊤} answer) (
+    Ok tt
+    ∷ Err AmountAboveLimit
+    ∷ Err UnknownCode
+    ∷ Err WrongStep
+    ∷ Err WrongCurrency
+    ∷ Err OutsideRange
+    ∷ Err ListFull
+    ∷ Err ResidualAboveOriginal
+    ∷ Err WrongCondition
+    ∷ Err RecordNotAccepted
+    ∷ []
+    )
+    ≡ 0 ∷ 1 ∷ 2 ∷ 3 ∷ 4 ∷ 5 ∷ 6 ∷ 7 ∷ 8 ∷ 40 ∷ []
+unfolding answer_number refusal_number
+numbers = refl

@@ -95,8 +95,8 @@ impl CollateralList {
         self.count <= Deal::COLLATERAL_LIMIT && all_allowed(&self.items[..self.count])
     }
 
-    #[tactic(auto, unfolding(crate::specs::Collateral::collateral_list_with, crate::specs::Collateral::collateral_list_refusal, crate::specs::Collateral::collateral_list_tests, base::specs::FirstMet::first_or))]
     // One item more, behind the counted ones; the same list beside a refusal.
+    #[tactic(auto, unfolding(crate::specs::Collateral::collateral_list_with, crate::specs::Collateral::collateral_list_refusal, crate::specs::Collateral::collateral_list_tests, base::specs::FirstMet::first_or))]
     pub fn add(mut self, item: Collateral) -> Added<CollateralList>
         ensures { (result.after ≡ collateral_list_with self item) × (answer_number result.answer ≡ collateral_list_refusal self item) }
     {

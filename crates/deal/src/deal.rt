@@ -42,8 +42,8 @@ impl Deal {
 
     pub const GUARANTEE_LIMIT: usize = 16;
 
-    #[tactic(auto, unfolding(crate::specs::Answers::answer_number, crate::specs::Opening::opened_deal))]
     // A new deal on these terms; none beside a refusal.
+    #[tactic(auto, unfolding(crate::specs::Answers::answer_number, crate::specs::Opening::opened_deal))]
     pub fn open(terms: Terms) -> Result<Deal, Refusal>
         ensures refusal { answer_number result ≡ terms_refusal terms }
         ensures opened { IfOk result (λ deal. deal ≡ opened_deal terms) }
@@ -52,8 +52,8 @@ impl Deal {
         Ok(without_protection(terms))
     }
 
-    #[tactic(auto, using(crate::proofs::Answers::agreed), unfolding(crate::specs::Records::record_allowed))]
     // Whether this is a record that adding takes: no count too high, no field that opening or adding would refuse.
+    #[tactic(auto, using(crate::proofs::Answers::agreed), unfolding(crate::specs::Records::record_allowed))]
     pub fn allowed(self) -> bool
         ensures { result ≡ record_allowed self }
     {
@@ -63,15 +63,15 @@ impl Deal {
         terms.check().is_ok() & collateral.allowed() & guarantees.allowed()
     }
 
-    #[tactic(auto, unfolding(crate::specs::Records::accepted))]
     // Whether this is an accepted deal, one that reporting takes.
+    #[tactic(auto, unfolding(crate::specs::Records::accepted))]
     pub fn accepted(self) -> bool
         ensures { result ≡ accepted_of self }
     {
         self.allowed()
     }
 
-    // One more item of collateral; the same deal beside a refusal.
+    // One more item of collateral; the same deal beside a refusal. Adding a guarantee is the same of another field, which no parameter can name.
     pub fn add_collateral(mut self, item: Collateral) -> Added<Deal>
         ensures { (answer_number result.answer ≡ add_collateral_refusal self item) × (result.after ≡ with_collateral self item) }
     {

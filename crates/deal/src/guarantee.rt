@@ -103,8 +103,8 @@ impl GuaranteeList {
         self.count <= Deal::GUARANTEE_LIMIT && all_allowed(&self.items[..self.count])
     }
 
-    #[tactic(auto, unfolding(crate::specs::Guarantees::guarantee_list_with, crate::specs::Guarantees::guarantee_list_refusal, crate::specs::Guarantees::guarantee_list_tests, base::specs::FirstMet::first_or))]
     // One guarantee or swap more, behind the counted ones; the same list beside a refusal.
+    #[tactic(auto, unfolding(crate::specs::Guarantees::guarantee_list_with, crate::specs::Guarantees::guarantee_list_refusal, crate::specs::Guarantees::guarantee_list_tests, base::specs::FirstMet::first_or))]
     pub fn add(mut self, item: Guarantee) -> Added<GuaranteeList>
         ensures { (result.after ≡ guarantee_list_with self item) × (answer_number result.answer ≡ guarantee_list_refusal self item) }
     {

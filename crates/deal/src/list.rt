@@ -1,4 +1,6 @@
-// What the lists of a deal have in common. Each keeps a type of its own, as a generic struct may hold no array of a type parameter.
+// What the lists of a deal have in common. Each keeps a type of its own, as a generic struct may hold no array of a type parameter. Each is an
+// array and a count: a record is read and written unchanged, with counts above the limit and whatever stands past a count (hadlephoga's
+// `deal_in` and `deal_numbers`), on no heap.
 ghost use Rattle.std.specs.Prelude.{◌≡◌, ◌+◌, ℕ, eqb, leb, length, if◌then◌else◌};
 ghost use Rattle.std.specs.List.{list_all};
 ghost use Rattle.deal.specs.Answers.{answer_number};
@@ -15,8 +17,8 @@ pub trait Item: Copy {
         ensures { answer_number result ≡ refusal self };
 }
 
-// A list, or the deal that holds it, as an addition leaves it, and what adding answers. The list stands first, which spares the code that
-// is made a copy.
+// A list, or the deal that holds it, as an addition leaves it, and what adding answers. No `Result`: document 01 has adding hand back the same
+// deal beside a refusal, too. The list stands first, which spares the code that is made a copy.
 #[derive(Clone, Copy, Debug, PartialEq, Eq)]
 pub struct Added<T> {
     pub after: T,
@@ -37,8 +39,8 @@ pub fn all_allowed<T: Item>(items: &[T]) -> bool
     items.iter().all(|item| is_allowed(item))
 }
 
-#[tactic(auto, using(crate::proofs::Answers::agreed), unfolding(crate::specs::Answers::answer_number, crate::specs::Answers::refusal_number))]
 // One item more, behind the counted ones; nothing changes beside a refusal.
+#[tactic(auto, using(crate::proofs::Answers::agreed), unfolding(crate::specs::Answers::answer_number, crate::specs::Answers::refusal_number))]
 pub fn put_item<T: Item>(items: &mut [T], count: &mut usize, item: T) -> Result<(), Refusal>
     ensures refusal { answer_number result ≡ (if leb (length items.old) count.old then 6 else T.refusal item) }
     ensures items_after { items.new ≡ unless_refused (answer_number result) (items_with items.old count.old item) items.old }

@@ -54,8 +54,8 @@ impl Party {
         self.sovereign_step <= highest_step((self.class == SOVEREIGN) | (self.class == RETAIL))
     }
 
-    #[tactic(auto, unfolding(crate::specs::Parties::party_steps_allowed))]
     // Its own step, and its sovereign's.
+    #[tactic(auto, unfolding(crate::specs::Parties::party_steps_allowed))]
     pub fn steps_allowed(self) -> bool
         ensures { result ≡ party_steps_allowed self }
     {

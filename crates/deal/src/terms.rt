@@ -18,6 +18,8 @@ const FIRST_EDITION: u64 = 1;
 
 const LAST_EDITION: u64 = 3;
 
+// Codes of every kind stay the numbers that were sent, here and in items: opening refuses wrong ones (`terms_refusal`), and a record is
+// written back with them (hadlephoga's `deal_numbers`), so no enum could hold what theorems speak of.
 #[derive(Clone, Copy, Debug, PartialEq, Eq)]
 pub struct Terms {
     pub amount: u64,
@@ -96,8 +98,8 @@ impl Terms {
         interval_allowed(self.interval) & days_allowed(self.residual) & lent.life_allowed()
     }
 
-    #[tactic(auto, unfolding(crate::specs::Terms::terms_refusal, crate::specs::Terms::terms_tests))]
     // The first refusal that opening a deal on these terms meets.
+    #[tactic(auto, unfolding(crate::specs::Terms::terms_refusal, crate::specs::Terms::terms_tests))]
     pub fn check(self) -> Result<(), Refusal>
         ensures { answer_number result ≡ terms_refusal self }
     {

@@ -30,7 +30,7 @@ use opening::open_record;
 use record::report_in;
 use report::{REPORT_LENGTH, put_report};
 
-// What lists of numbers are refused with: a wrong number of fields, and a lent list that is too short.
+// What lists of numbers are refused with, as C reads it: a wrong number of fields, and a lent list that is too short.
 const MALFORMED: u64 = 11;
 
 const LIST_TOO_SHORT: u64 = 13;

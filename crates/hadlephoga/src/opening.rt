@@ -24,7 +24,7 @@ fn opened_on(terms: &[u64]) -> Result<Deal, LineRefusal>
     Ok(Deal::open(terms_in(terms))?)
 }
 
-// A record of zeros stands beside a refusal.
+// The number itself, and no `Result`: a record of zeros stands beside a refusal, and the list too short leaves it as it was (`list_opened`).
 pub fn open_record(terms: &[u64], record: &mut [u64]) -> u64
     ensures value { result ≡ opening_refusal_of terms.now (length «record».old) }
     ensures record_after { «record».new ≡ list_opened terms.now «record».old }

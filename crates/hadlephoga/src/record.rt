@@ -30,6 +30,7 @@ const FIRST_GUARANTEE: usize = GUARANTEE_COUNT + 1;
 
 pub const RECORD_LENGTH: usize = FIRST_GUARANTEE + GUARANTEES_LENGTH;
 
+// A function for each list: no generic one can hand out an array of a type parameter.
 fn collateral_items(numbers: &[u64]) -> [Collateral; Deal::COLLATERAL_LIMIT]
     requires { length numbers.now ≡ collateral_length }
     ensures { result ≡ map collateral_in (slices collateral_width list_limit numbers.now) }
@@ -67,8 +68,8 @@ pub fn deal_in(numbers: &[u64]) -> Deal
     }
 }
 
-#[tactic(auto, unfolding(crate::specs::Reports::report_in))]
 // The report of the record that these numbers are; where they are no record, the reply to a record that is not accepted.
+#[tactic(auto, unfolding(crate::specs::Reports::report_in))]
 pub fn report_in(numbers: &[u64]) -> Report
     ensures { result ≡ report_in numbers.now }
 {

@@ -9,6 +9,7 @@ use deal::party::Party;
 use deal::ranges::currency_allowed;
 use deal::refusal::Refusal;
 
+// Codes stay the numbers that were sent: wrong ones are refused (`set_terms_refusal`, `position_refusal`).
 const FIRST_TABLE: u64 = 2;
 
 const LAST_TABLE: u64 = 3;

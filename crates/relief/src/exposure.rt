@@ -18,8 +18,8 @@ impl TimedTerms {
         self.factors.deal.scale(haircut)
     }
 
-    #[tactic(auto, using(deal::proofs::Plain::plain_terms, crate::proofs::ValueBounds::scaled_lent_haircut_bound), unfolding(crate::specs::Exposure::adjusted_exposure_of))]
     // The exposure, volatility-adjusted by that haircut, less the collateral's total, and never more than the deal's amount.
+    #[tactic(auto, using(deal::proofs::Plain::plain_terms, crate::proofs::ValueBounds::scaled_lent_haircut_bound), unfolding(crate::specs::Exposure::adjusted_exposure_of))]
     pub fn exposure_after(&self, total: u64) -> u64
         ensures { result ≡ min self.now.terms.amount (adjusted_exposure_of (table_for self.now.terms) self.now.terms - total) }
     {

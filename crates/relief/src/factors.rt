@@ -39,8 +39,8 @@ impl TimeFactors {
         }
     }
 
-    #[tactic(auto, using(deal::proofs::Plain::plain_terms, scaling::proofs::Periods::period_bound, scaling::proofs::Periods::guarantee_bound))]
     // Those of a deal, some of which may be at hand.
+    #[tactic(auto, using(deal::proofs::Plain::plain_terms, scaling::proofs::Periods::period_bound, scaling::proofs::Periods::guarantee_bound))]
     pub fn for_terms(self, terms: Terms) -> TimedTerms
         requires { terms_refusal terms ≡ 0 }
         ensures { result.terms ≡ terms }

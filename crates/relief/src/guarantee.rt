@@ -50,8 +50,8 @@ fn unrated_entity(item: Guarantee) -> bool
     item.provider.class == OTHER_ENTITY && item.provider.step == 0
 }
 
-#[tactic(auto, unfolding(crate::specs::Guarantees::hedged_amount))]
 // The amount that is hedged: not the whole of a swap for which restructuring is no credit event.
+#[tactic(auto, unfolding(crate::specs::Guarantees::hedged_amount))]
 fn hedged_amount(terms: Terms, item: Guarantee) -> u64
     requires { item.amount ≤ 1000000000000 }
     ensures { result ≡ hedged_amount terms item }
@@ -62,8 +62,8 @@ fn hedged_amount(terms: Terms, item: Guarantee) -> u64
     item.amount
 }
 
-#[tactic(auto, using(crate::proofs::Hedged::hedged_le), unfolding(base::specs::FirstMet::first_or, crate::specs::Guarantees::guarantee_outcome, crate::specs::Guarantees::guarantee_ground, crate::specs::Guarantees::guarantee_grounds, crate::specs::Guarantees::guarantee_valuation, crate::specs::Outcomes::outcome_for, crate::specs::Grounds::ground_with))]
 // The first ground that applies, or the valuation under this haircut. `weight` is the provider's, `counterparty_weight` the counterparty's.
+#[tactic(auto, using(crate::proofs::Hedged::hedged_le), unfolding(base::specs::FirstMet::first_or, crate::specs::Guarantees::guarantee_outcome, crate::specs::Guarantees::guarantee_ground, crate::specs::Guarantees::guarantee_grounds, crate::specs::Guarantees::guarantee_valuation, crate::specs::Outcomes::outcome_for, crate::specs::Grounds::ground_with))]
 fn outcome_after_haircut(
     terms: Terms,
     item: Guarantee,
@@ -102,8 +102,8 @@ fn outcome_after_haircut(
 }
 
 impl TimedTerms {
-    #[tactic(auto, using(deal::proofs::Plain::plain_guarantee), unfolding(deal::specs::Editions::table_for))]
     // One guarantee; `counterparty_weight` is the counterparty's.
+    #[tactic(auto, using(deal::proofs::Plain::plain_guarantee), unfolding(deal::specs::Editions::table_for))]
     pub fn guarantee_outcome(&self, item: Guarantee, counterparty_weight: u64) -> ValuedGuarantee
         requires { (guarantee_refusal item ≡ 0) × (counterparty_weight ≡ counterparty_weight_of (table_for self.now.terms) self.now.terms) }
         ensures { (result.outcome ≡ guarantee_outcome (table_for self.now.terms) self.now.terms item) × (result.protection ≡ protection_of (table_for self.now.terms) self.now.terms item) }

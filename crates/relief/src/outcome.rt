@@ -1,4 +1,4 @@
-// What became of a piece of protection.
+// What became of a piece of protection. No `Result`: document 01 names the two variants, and protection that is left out is no failure.
 ghost use Rattle.std.specs.Prelude.{◌≡◌};
 ghost use Rattle.relief.specs.Outcomes.{outcome_ground, outcome_left_out, outcome_valuation};
 

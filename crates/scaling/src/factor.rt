@@ -68,7 +68,7 @@ impl TimeFactor {
         if target == 0 {
             return 0;
         }
-        // The scaled whole less 1 is below the factor, so its share of the haircut is too small.
+        // The scaled whole less 1 is below the factor, so its share of the haircut is too small. A search from there, of a step or two.
         let mut h = haircut * (self.millionths - 1) / WHOLE + 1;
         while 10 * h * h < target {
             h += 1;

@@ -1,4 +1,5 @@
-// The figures of a deal's own edition, the number in its book's header.
+// The figures of a deal's own edition, the number in its book's header. A version of the tables is a type and an edition a number, so each of
+// these chooses by itself.
 ghost use Rattle.std.specs.Prelude.{◌≡◌, eqb, ◌≤◌};
 ghost use Rattle.tables.specs.Table.{table_of};
 ghost use Rattle.tables.specs.Version2023.{edition_2023};
