@@ -1,7 +1,7 @@
--- A test of the first n elements of a list, for loops that make it one element at a time. Assumes nothing.
+-- A test of the first n elements of a list. Assumes nothing.
 use Prim.Native.Nat.{ℕ, zero, suc, ◌+◌, ◌<◌}
 use mathlib.Core.Path.{◌≡◌, refl, ap}
-use mathlib.Core.Bool.{Bool, true, false, ◌&&◌}
+use mathlib.Core.Bool.{Bool, true, ◌&&◌}
 use mathlib.Core.List.{List, [], ◌∷◌, map}
 use native.Mathlib.Omega.{arith}
 use native.Mathlib.Nat.{le_of_suc-le-suc, not-suc-le-zero}
@@ -10,29 +10,9 @@ use lib.ListN.{length, take, set, get_or}
 use Rattle.std.specs.List.{list_all}
 use Rattle.base.specs.All.{all_pass}
 use Rattle.base.proofs.Every.{both}
-use Rattle.base.proofs.Tests.{and_true, and_first, and_second}
+use Rattle.base.proofs.Tests.{and_true}
 
 module _ {A : Type 0} (p : A → Bool) where
-  -- one element more, that passes
-  pub all_more : (n : ℕ) (xs : List A) (d : A) → all_pass (take n xs) p ≡ true → p (get_or xs n d) ≡ true → all_pass (take (n + 1) xs) p ≡ true
-  all_more n xs d h e = rw add-one (go n xs h e)
-    where
-      go : (n : ℕ) (xs : List A) → all_pass (take n xs) p ≡ true → p (get_or xs n d) ≡ true → all_pass (take (suc n) xs) p ≡ true
-      go n [] h e = refl
-      go zero (x ∷ xs) h e = and_true (p x) _ e refl
-      go (suc n) (x ∷ xs) h e = let b = both (p x) (all_pass (take n xs) p) h in and_true (p x) _ b.0 (go n xs b.1 e)
-
-  -- one that fails
-  pub all_not : (n i : ℕ) (xs : List A) (d : A) → i < n → i < length xs → p (get_or xs i d) ≡ false → all_pass (take n xs) p ≡ false
-  all_not zero i xs d h k e = absurd (not-suc-le-zero h)
-  all_not (suc n) i [] d h k e = absurd (not-suc-le-zero k)
-  all_not (suc n) zero (x ∷ xs) d h k e = and_first (p x) _ e
-  all_not (suc n) (suc i) (x ∷ xs) d h k e = go (p x) refl (all_not n i xs d (le_of_suc-le-suc h) (le_of_suc-le-suc k) e)
-    where
-      go : (b : Bool) → p x ≡ b → all_pass (take n xs) p ≡ false → (p x && all_pass (take n xs) p) ≡ false
-      go true q f = and_second (p x) _ q f
-      go false q f = and_first (p x) _ q
-
   pub all_at : (n i : ℕ) (xs : List A) (d : A) → i < n → i < length xs → all_pass (take n xs) p ≡ true → p (get_or xs i d) ≡ true
   all_at zero i xs d h k e = absurd (not-suc-le-zero h)
   all_at (suc n) i [] d h k e = absurd (not-suc-le-zero k)

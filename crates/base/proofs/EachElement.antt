@@ -1,10 +1,6 @@
 -- The laws of what holds of each element of a list. Assumes nothing.
-use mathlib.Core.Path.{◌≡◌}
-use mathlib.Core.Bool.{Bool, true}
 use mathlib.Core.List.{List, [], ◌∷◌, ◌++◌, map}
-use Rattle.base.specs.All.{all_pass}
 use Rattle.base.specs.Each.{Each}
-use Rattle.base.proofs.Every.{both}
 
 -- of a list that is mapped
 pub each_map : {A B : Type 0} (P : B → Type 0) (f : A → B) → ((x : A) → P (f x)) → (xs : List A) → Each P (map f xs)
@@ -24,10 +20,6 @@ module _ {A : Type 0} where
   pub each_both : {P Q R : A → Type 0} → ((x : A) → P x → Q x → R x) → (xs : List A) → Each P xs → Each Q xs → Each R xs
   each_both f [] h k = tt
   each_both f (x ∷ xs) h k = (f x h.0 k.0, each_both f xs h.1 k.1)
-
-  pub each_passes : (test : A → Bool) (xs : List A) → all_pass xs test ≡ true → Each (λ x. test x ≡ true) xs
-  each_passes test [] e = tt
-  each_passes test (x ∷ xs) e = let b = both (test x) (all_pass xs test) e in (b.0, each_passes test xs b.1)
 
   -- the one in the middle, and another in its place
   pub each_at : (P : A → Type 0) (xs ys : List A) (x : A) → Each P (xs ++ x ∷ ys) → P x

@@ -1,11 +1,11 @@
 -- What is left of the first n elements from the ith on, for loops, and whether one of them passes a test. Assumes nothing.
-use Prim.Native.Nat.{ℕ, ◌+◌, ◌≤◌, ◌<◌}
+use Prim.Native.Nat.{ℕ, ◌+◌, ◌<◌}
 use mathlib.Core.Path.{◌≡◌, ap, ◌∙◌}
 use mathlib.Core.Bool.{Bool, true, false}
-use mathlib.Core.List.{List, [], ◌∷◌}
+use mathlib.Core.List.{List, ◌∷◌}
 use native.Mathlib.Numerals.{add-one}
 use native.Mathlib.Omega.{arith}
-use lib.ListN.{length, take, drop, get_or, length-take, drop_of_length-le}
+use lib.ListN.{length, take, drop, get_or, length-take}
 use lib.Seq.{drop-cons, get_or-take}
 use Rattle.base.specs.Any.{any, any_two}
 use Rattle.base.proofs.Tests.{or_first}
@@ -14,9 +14,6 @@ module _ {A : Type 0} where
   pub rest_next : (xs : List A) (n i : ℕ) (d : A) → i < n → i < length xs → drop i (take n xs) ≡ get_or xs i d ∷ drop (i + 1) (take n xs)
   rest_next xs n i d h k =
       rw (add-one i, ← (get_or-take n xs i d h)) (drop-cons (take n xs) i d (omega (arith, length-take n xs)))
-
-  pub rest_none : (xs : List A) (n i : ℕ) → n ≤ i → drop i (take n xs) ≡ []
-  rest_none xs n i h = drop_of_length-le (take n xs) {i = i} (omega (arith, length-take n xs))
 
 module _ {A : Type 0} (p : A → Bool) (xs : List A) (n i : ℕ) (d : A) (h : i < n) (k : i < length xs) where
   pub any_here : p (get_or xs i d) ≡ true → any (drop i (take n xs)) p ≡ true
@@ -27,10 +24,6 @@ module _ {A : Type 0} (p : A → Bool) (xs : List A) (n i : ℕ) (d : A) (h : i 
   unfolding any
   any_later e = ap (λ ys. any ys p) (rest_next xs n i d h k) ∙ rw e
 
-pub any_none : {A : Type 0} (p : A → Bool) (xs : List A) (n i : ℕ) → n ≤ i → any (drop i (take n xs)) p ≡ false
-unfolding any
-any_none p xs n i h = ap (λ ys. any ys p) (rest_none xs n i h)
-
 -- whether two of them do
 module _ {A : Type 0} (test : A → A → Bool) (xs : List A) (n i : ℕ) (d : A) (h : i < n) (k : i < length xs) where
   pub two_here : any (drop (i + 1) (take n xs)) (test (get_or xs i d)) ≡ true → any_two (drop i (take n xs)) test ≡ true
@@ -40,7 +33,3 @@ module _ {A : Type 0} (test : A → A → Bool) (xs : List A) (n i : ℕ) (d : A
   pub two_later : any (drop (i + 1) (take n xs)) (test (get_or xs i d)) ≡ false → any_two (drop i (take n xs)) test ≡ any_two (drop (i + 1) (take n xs)) test
   unfolding any_two
   two_later e = ap (λ ys. any_two ys test) (rest_next xs n i d h k) ∙ rw e
-
-pub two_none : {A : Type 0} (test : A → A → Bool) (xs : List A) (n i : ℕ) → n ≤ i → any_two (drop i (take n xs)) test ≡ false
-unfolding any_two
-two_none test xs n i h = ap (λ ys. any_two ys test) (rest_none xs n i h)

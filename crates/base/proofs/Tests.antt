@@ -53,10 +53,6 @@ told_not_false false x e h = sym e
 
 pub ruleset told = (told_true, told_false, told_not_true, told_not_false)
 
--- of several calls
-pub and_same : (r x s y : Bool) → r ≡ x → s ≡ y → (r && s) ≡ (x && y)
-and_same r x s y e h = rw (e, h)
-
 pub ruleset joined = (and_true, and_first, and_second, or_false, or_first, or_second)
 
 pub ruleset tests = (rules, if_true, if_false, not_true, not_false, le-leb, lt-leb, lt-ltb, le-ltb, eq-eqb, ne_eqb)

@@ -1,4 +1,5 @@
 pub mod Answering
+pub mod Counted
 pub mod Examples
 pub mod Grouping
 pub mod Held

@@ -71,9 +71,6 @@ module _ (text : List ℕ) (start number : ℕ) where
           others = p.others ∙ r.others;
         }
 
-pub read_as : {text : List ℕ} {start number end end' next next' : ℕ} → LinesRead text start number end next → end' ≡ end → next' ≡ next → LinesRead text start number end' next'
-read_as r e n = rw (e, n) r
-
 -- the lines behind the one that opens a deal
 pub deal_read : (text : List ℕ) (number end next : ℕ) → opens_deal text ≡ true → LinesRead text (length (first_line text)) (number + 1) end next → DealRead number text end next
 deal_read text number end next h r =

@@ -12,7 +12,7 @@ pub fn opens_deal(text: &[u8]) -> bool
     starts_with(text, b"D\t")
 }
 
-// How many of the lines open a deal.
+// How many of the lines open a deal. By a place: the next line starts where this one ends.
 pub fn count_deals(lines: &[u8]) -> usize
     ensures { result ≡ length (deals_from 2 (lines_of lines.now)) }
 {

@@ -26,7 +26,7 @@ pub struct RefusedLine {
     pub refusal: LineRefusal,
 }
 
-#[derive(Clone, Copy)]
+#[derive(Clone, Copy, Debug, PartialEq, Eq)]
 pub struct DealResult {
     pub answer: Result<Amounts, RefusedLine>,
     // Where the deal's lines end, and the number of the line there.
@@ -35,14 +35,14 @@ pub struct DealResult {
 }
 
 // A deal's answer, and the time factors of its periods, which the next deal may share.
-#[derive(Clone, Copy)]
+#[derive(Clone, Copy, Debug, PartialEq, Eq)]
 pub struct ResultAndFactors {
     pub result: DealResult,
     pub factors: TimeFactors,
 }
 
 // The items of a deal while its lines are read.
-#[derive(Clone, Copy)]
+#[derive(Clone, Copy, Debug, PartialEq, Eq)]
 struct Items {
     collateral: CollateralList,
     guarantees: GuaranteeList,

@@ -32,7 +32,7 @@ impl BookRefusal {
 }
 
 // What a book holds that is answered.
-#[derive(Clone, Copy)]
+#[derive(Clone, Copy, Debug, PartialEq, Eq)]
 pub struct Contents {
     pub edition: u64,
     // Where its first deal starts.

@@ -1,6 +1,6 @@
 // A guarantee, as far as cover goes.
 
-#[derive(Clone, Copy)]
+#[derive(Clone, Copy, Debug, PartialEq, Eq)]
 pub struct Protection {
     // What it covers at most, 0 where it is left out.
     pub value: u64,
@@ -17,7 +17,7 @@ impl Protection {
 }
 
 // What protection leaves of an exposure.
-#[derive(Clone, Copy)]
+#[derive(Clone, Copy, Debug, PartialEq, Eq)]
 pub struct Cover {
     // Portions in order of adding, 0 in places past the last.
     pub portions: [u64; 16],

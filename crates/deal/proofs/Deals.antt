@@ -69,10 +69,6 @@ module _ (d : Deal) (tests : List (Test ℕ)) where
 -- Adding collateral
 
 module _ (l : CollateralList) (c : Collateral) where
-  pub collateral_list_refused : eqb (collateral_list_refusal l c) 0 ≡ false → collateral_list_with l c ≡ l
-  unfolding collateral_list_with
-  collateral_list_refused e = if_false _ _ _ e
-
   pub collateral_list_added : collateral_list_refusal l c ≡ 0 → collateral_list_with l c ≡ append_collateral l c
   unfolding collateral_list_with
   collateral_list_added e = if_true _ _ _ (eq-eqb _ 0 e)
@@ -113,10 +109,6 @@ module _ (d : Deal) (c : Collateral) where
 -- Adding a guarantee
 
 module _ (l : GuaranteeList) (g : Guarantee) where
-  pub guarantee_list_refused : eqb (guarantee_list_refusal l g) 0 ≡ false → guarantee_list_with l g ≡ l
-  unfolding guarantee_list_with
-  guarantee_list_refused e = if_false _ _ _ e
-
   pub guarantee_list_added : guarantee_list_refusal l g ≡ 0 → guarantee_list_with l g ≡ append_guarantee l g
   unfolding guarantee_list_with
   guarantee_list_added e = if_true _ _ _ (eq-eqb _ 0 e)

@@ -7,45 +7,19 @@ use mathlib.Core.Bool.{Bool, true, false}
 use mathlib.Core.List.{List}
 use native.Mathlib.Omega.{arith}
 use lib.Dec.{leb, eqb}
-use lib.ListN.{length, take, get_or}
-use borrow.Author.Tests.{le-leb, lt-leb, leb-true, leb-false, eq-eqb, eqb-true}
-use Rattle.base.specs.All.{all_pass}
+use lib.ListN.{length}
+use borrow.Author.Tests.{le-leb, lt-leb, leb-true, leb-false, eq-eqb}
 use Rattle.base.specs.FirstMet.{Test, first_met, first_or}
-use Rattle.base.proofs.All.{all_at, all_more, all_not, all_set}
+use Rattle.base.proofs.All.{all_set}
 use Rattle.base.proofs.Every.{both}
 use Rattle.base.proofs.FirstMet.{distinct, met_first, none_exactly, none_met, not_met}
-use Rattle.base.proofs.Tests.{and_true, and_first, and_second}
+use Rattle.base.proofs.Tests.{and_true}
 use Rattle.deal.specs.Lists.{items_with, list_allowed, list_limit, list_tests, unless_refused}
 
 module _ {A : Type 0} (refusal : A → ℕ) (items : List A) (count : ℕ) where
-  abbrev passes : A → Bool
-  passes x = eqb (refusal x) 0
-
-  -- of a list that is allowed: its count, and each counted item
+  -- the count of a list that is allowed
   pub count_fits : list_allowed refusal items count ≡ true → count ≤ list_limit
   count_fits e = leb-true _ list_limit (both (leb count list_limit) _ e).0
-
-  pub taken_at : list_allowed refusal items count ≡ true → (i : ℕ) (d : A) → i < count → i < length items → refusal (get_or items i d) ≡ 0
-  taken_at e i d h k = eqb-true _ 0 (all_at passes count i items d h k (both (leb count list_limit) _ e).1)
-
-  -- for a loop that looks at the counted items one by one
-  abbrev pub PassedTo : ℕ → Type 0
-  PassedTo i = (i ≤ count) × (all_pass (take i items) passes ≡ true)
-
-  pub none_passed : PassedTo 0
-  none_passed = (omega arith, refl)
-
-  pub one_passed : (i : ℕ) (d : A) → i < count → PassedTo i → passes (get_or items i d) ≡ true → PassedTo (i + 1)
-  one_passed i d h inv e = (omega arith, all_more passes i items d inv.1 e)
-
-  pub too_many : list_limit < count → list_allowed refusal items count ≡ false
-  too_many h = and_first _ _ (lt-leb count list_limit h)
-
-  pub one_refused : (i : ℕ) (d : A) → count ≤ list_limit → i < count → i < length items → passes (get_or items i d) ≡ false → list_allowed refusal items count ≡ false
-  one_refused i d n h k e = and_second _ _ (le-leb count list_limit n) (all_not passes count i items d h k e)
-
-  pub all_passed : (i : ℕ) → count ≤ list_limit → i ≡ count → PassedTo i → list_allowed refusal items count ≡ true
-  all_passed i n e inv = and_true _ _ (le-leb count list_limit n) (rw e at inv.1)
 
 -- 6 first, then the item's own tests
 module _ {A : Type 0} (tests : A → List (Test ℕ)) (count : ℕ) (x : A) where

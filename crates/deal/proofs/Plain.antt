@@ -1,11 +1,10 @@
 -- What is not refused, in plain inequalities: for sums and products to fit, and for the laws of the tables. Assumes nothing.
 use Rattle.std.proofs.Common.{if◌then◌else◌}
-use Prim.Native.Nat.{ℕ, ◌≤◌, ◌<◌}
+use Prim.Native.Nat.{ℕ, ◌≤◌}
 use mathlib.Core.Path.{◌≡◌, refl}
 use mathlib.Core.Bool.{Bool, true, false, ◌&&◌, ◌||◌}
 use native.Mathlib.Omega.{arith}
 use lib.Dec.{leb, eqb}
-use lib.ListN.{length, get_or}
 use borrow.Author.Tests.{leb-true, eqb-true, not-false as held}
 use Rattle.base.proofs.Every.{both}
 use Rattle.base.proofs.FirstMet.{none_exactly}
@@ -16,7 +15,7 @@ use Rattle.deal.specs.Assets.{asset_step_allowed, goods_known, is_debt}
 use Rattle.deal.specs.Terms.{kind_known, terms_tests, terms_refusal}
 use Rattle.deal.specs.Collateral.{collateral_tests, collateral_refusal, collateral_list_allowed}
 use Rattle.deal.specs.Guarantees.{guarantee_tests, guarantee_refusal, guarantee_list_allowed}
-use Rattle.deal.proofs.Lists.{count_fits, taken_at}
+use Rattle.deal.proofs.Lists.{count_fits}
 use Rattle.deal.specs.declared.asset.Asset.{Asset}
 use Rattle.deal.specs.declared.party.Party.{Party}
 use Rattle.deal.specs.declared.terms.Terms.{Terms}
@@ -173,21 +172,13 @@ plain_guarantee g e =
       instrument = leb-true _ 2 four.1;
     }
 
--- of a list that is allowed: its count, and each counted item
+-- the count of a list that is allowed
 module _ (l : CollateralList) (e : collateral_list_allowed l ≡ true) where
   pub collateral_count : l.count ≤ 16
   unfolding collateral_list_allowed
   collateral_count = count_fits collateral_refusal l.items l.count e
 
-  pub collateral_at : (i : ℕ) (d : Collateral) → i < l.count → i < length l.items → PlainCollateral (get_or l.items i d)
-  unfolding collateral_list_allowed
-  collateral_at i d h k = plain_collateral _ (taken_at collateral_refusal l.items l.count e i d h k)
-
 module _ (l : GuaranteeList) (e : guarantee_list_allowed l ≡ true) where
   pub guarantee_count : l.count ≤ 16
   unfolding guarantee_list_allowed
   guarantee_count = count_fits guarantee_refusal l.items l.count e
-
-  pub guarantee_taken : (i : ℕ) (d : Guarantee) → i < l.count → i < length l.items → guarantee_refusal (get_or l.items i d) ≡ 0
-  unfolding guarantee_list_allowed
-  guarantee_taken i d h k = taken_at guarantee_refusal l.items l.count e i d h k

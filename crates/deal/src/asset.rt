@@ -4,7 +4,6 @@ ghost use Rattle.deal.specs.Assets.{goods_known, is_debt, asset_step_allowed, li
 ghost use Rattle.deal.specs.Ranges.{days_limit};
 
 use crate::ranges::{days_allowed, step_allowed};
-use base::within;
 use tables::goods::{CASH, GOLD, RESECURITISATION, SOVEREIGN_DEBT};
 
 #[derive(Clone, Copy, Debug, PartialEq, Eq)]
@@ -16,17 +15,19 @@ pub struct Asset {
     pub life: u64,
 }
 
+#[tactic(auto, unfolding(base::specs::Range::within))]
 fn is_debt(goods: u64) -> bool
     ensures { result ≡ is_debt goods }
 {
-    within(SOVEREIGN_DEBT, RESECURITISATION, goods)
+    (SOVEREIGN_DEBT..=RESECURITISATION).contains(&goods)
 }
 
 impl Asset {
+    #[tactic(auto, unfolding(base::specs::Range::within))]
     pub fn goods_known(self) -> bool
         ensures { result ≡ goods_known self }
     {
-        within(CASH, GOLD, self.goods)
+        (CASH..=GOLD).contains(&self.goods)
     }
 
     #[tactic(auto, unfolding(crate::specs::Assets::asset_step_allowed))]

@@ -7,7 +7,7 @@ ghost use Rattle.deal.specs.Checks.{field_tests};
 use crate::refusal::Refusal;
 
 // Whether each kind of field is as it should be, in the order of the refusals.
-#[derive(Clone, Copy)]
+#[derive(Clone, Copy, Debug, PartialEq, Eq)]
 pub struct FieldChecks {
     pub amount: bool,
     // Class, kind, type and edition.

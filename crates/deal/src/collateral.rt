@@ -10,7 +10,7 @@ use crate::list::{Added, Item, all_allowed, put_item};
 use crate::ranges::{amount_allowed, condition_allowed, currency_allowed, days_allowed};
 use crate::refusal::Refusal;
 
-#[derive(Clone, Copy)]
+#[derive(Clone, Copy, Debug, PartialEq, Eq)]
 pub struct Collateral {
     pub amount: u64,
     pub asset: Asset,
@@ -26,7 +26,7 @@ pub struct Collateral {
     pub listed: u64,
 }
 
-#[derive(Clone, Copy)]
+#[derive(Clone, Copy, Debug, PartialEq, Eq)]
 pub struct CollateralList {
     pub items: [Collateral; Deal::COLLATERAL_LIMIT],
     pub count: usize,

@@ -12,7 +12,7 @@ use crate::list::Added;
 use crate::refusal::Refusal;
 use crate::terms::Terms;
 
-#[derive(Clone, Copy)]
+#[derive(Clone, Copy, Debug, PartialEq, Eq)]
 pub struct Deal {
     pub terms: Terms,
     pub collateral: CollateralList,

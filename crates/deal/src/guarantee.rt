@@ -12,7 +12,7 @@ use crate::party::Party;
 use crate::ranges::{amount_allowed, condition_allowed, currency_allowed, days_allowed};
 use crate::refusal::Refusal;
 
-#[derive(Clone, Copy)]
+#[derive(Clone, Copy, Debug, PartialEq, Eq)]
 pub struct Guarantee {
     pub amount: u64,
     pub provider: Party,
@@ -28,7 +28,7 @@ pub struct Guarantee {
     pub instrument: u64,
 }
 
-#[derive(Clone, Copy)]
+#[derive(Clone, Copy, Debug, PartialEq, Eq)]
 pub struct GuaranteeList {
     pub items: [Guarantee; Deal::GUARANTEE_LIMIT],
     pub count: usize,

@@ -17,7 +17,7 @@ pub trait Item: Copy {
 
 // A list, or the deal that holds it, as an addition leaves it, and what adding answers. The list stands first, which spares the code that
 // is made a copy.
-#[derive(Clone, Copy)]
+#[derive(Clone, Copy, Debug, PartialEq, Eq)]
 pub struct Added<T> {
     pub after: T,
     pub answer: Result<(), Refusal>,

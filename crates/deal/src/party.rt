@@ -3,10 +3,9 @@ ghost use Rattle.std.specs.Prelude.{◌≡◌, if◌then◌else◌};
 ghost use Rattle.deal.specs.Parties.{counterparty_known, party_step_allowed, party_steps_allowed, provider_known, sovereign_step_allowed};
 
 use crate::ranges::LAST_STEP;
-use base::within;
 use tables::classes::{OTHER_ENTITY, RETAIL, SOVEREIGN};
 
-#[derive(Clone, Copy)]
+#[derive(Clone, Copy, Debug, PartialEq, Eq)]
 pub struct Party {
     pub class: u64,
     pub step: u64,
@@ -26,17 +25,19 @@ fn highest_step(zero: bool) -> u64
 
 impl Party {
     // Whether its class is one of a counterparty.
+    #[tactic(auto, unfolding(base::specs::Range::within))]
     pub fn counterparty_known(self) -> bool
         ensures { result ≡ counterparty_known self }
     {
-        within(SOVEREIGN, RETAIL, self.class)
+        (SOVEREIGN..=RETAIL).contains(&self.class)
     }
 
     // Whether its class is one of a provider.
+    #[tactic(auto, unfolding(base::specs::Range::within))]
     pub fn provider_known(self) -> bool
         ensures { result ≡ provider_known self }
     {
-        within(SOVEREIGN, OTHER_ENTITY, self.class)
+        (SOVEREIGN..=OTHER_ENTITY).contains(&self.class)
     }
 
     #[tactic(auto, using(crate::proofs::Steps::at_most_highest), unfolding(crate::specs::Parties::party_step_allowed))]

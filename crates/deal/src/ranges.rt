@@ -3,7 +3,6 @@ ghost use Rattle.std.specs.Prelude.{◌≡◌};
 ghost use Rattle.deal.specs.Ranges.{amount_allowed, currency_allowed, days_allowed, days_limit, interval_allowed, step_allowed, condition_allowed};
 
 use crate::deal::Deal;
-use base::within;
 
 const LAST_CURRENCY: u64 = 999;
 
@@ -19,24 +18,27 @@ pub fn amount_allowed(amount: u64) -> bool
 }
 
 // An ISO 4217 number.
+#[tactic(auto, unfolding(base::specs::Range::within))]
 pub fn currency_allowed(currency: u64) -> bool
     ensures { result ≡ currency_allowed currency }
 {
-    within(1, LAST_CURRENCY, currency)
+    (1..=LAST_CURRENCY).contains(&currency)
 }
 
 // Days of life or cover.
+#[tactic(auto, unfolding(base::specs::Range::within))]
 pub fn days_allowed(days: u64) -> bool
     ensures { result ≡ days_allowed days_limit days }
 {
-    within(1, Deal::DAYS_LIMIT, days)
+    (1..=Deal::DAYS_LIMIT).contains(&days)
 }
 
 // Business days between revaluations.
+#[tactic(auto, unfolding(base::specs::Range::within))]
 pub fn interval_allowed(interval: u64) -> bool
     ensures { result ≡ interval_allowed interval }
 {
-    within(1, LONGEST_INTERVAL, interval)
+    (1..=LONGEST_INTERVAL).contains(&interval)
 }
 
 // A rating step, 0 for none.

@@ -12,14 +12,13 @@ use crate::checks::FieldChecks;
 use crate::party::Party;
 use crate::ranges::{amount_allowed, currency_allowed, days_allowed, interval_allowed};
 use crate::refusal::Refusal;
-use base::within;
 use tables::kinds::{REPO_STYLE, SECURED_LENDING};
 
 const FIRST_EDITION: u64 = 1;
 
 const LAST_EDITION: u64 = 3;
 
-#[derive(Clone, Copy)]
+#[derive(Clone, Copy, Debug, PartialEq, Eq)]
 pub struct Terms {
     pub amount: u64,
     pub counterparty: Party,
@@ -34,16 +33,18 @@ pub struct Terms {
     pub edition: u64,
 }
 
+#[tactic(auto, unfolding(base::specs::Range::within))]
 fn edition_known(edition: u64) -> bool
     ensures { result ≡ edition_known edition }
 {
-    within(FIRST_EDITION, LAST_EDITION, edition)
+    (FIRST_EDITION..=LAST_EDITION).contains(&edition)
 }
 
+#[tactic(auto, unfolding(base::specs::Range::within))]
 fn kind_known(kind: u64) -> bool
     ensures { result ≡ kind_known kind }
 {
-    within(REPO_STYLE, SECURED_LENDING, kind)
+    (REPO_STYLE..=SECURED_LENDING).contains(&kind)
 }
 
 impl Terms {

@@ -14,7 +14,7 @@ use deal::guarantee::Guarantee;
 use deal::terms::Terms;
 
 // An enum of its own, and no `Option` of three kinds: that a line is malformed is one of the paper's answers, which theorems name.
-#[derive(Clone, Copy)]
+#[derive(Clone, Copy, Debug, PartialEq, Eq)]
 pub enum Line {
     DealLine(Terms),
     CollateralLine(Collateral),

@@ -7,7 +7,7 @@ ghost use Rattle.relief.specs.Exposure.{exposure_after, risk_weighted_amount_of}
 use crate::factors::TimedTerms;
 use valuation::exposure::risk_weighted_amount;
 
-#[derive(Clone, Copy)]
+#[derive(Clone, Copy, Debug, PartialEq, Eq)]
 pub struct Amounts {
     // The exposure after collateral, E*.
     pub exposure: u64,

@@ -21,7 +21,7 @@ use tables::eligibility::eligible;
 use valuation::haircuts::combined_haircut;
 use valuation::protection::Valuation;
 
-#[derive(Clone, Copy)]
+#[derive(Clone, Copy, Debug, PartialEq, Eq)]
 pub struct CollateralReport {
     pub outcome: Outcome,
 }
@@ -34,7 +34,7 @@ impl CollateralReport {
 }
 
 // What all items come to, in order of adding.
-#[derive(Clone, Copy)]
+#[derive(Clone, Copy, Debug, PartialEq, Eq)]
 pub struct CollateralValues {
     pub reports: [CollateralReport; Deal::COLLATERAL_LIMIT],
     pub total: u64,

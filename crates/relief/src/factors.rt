@@ -7,7 +7,7 @@ use deal::terms::Terms;
 use scaling::factor::TimeFactor;
 use scaling::period::{guarantee_period, holding_period};
 
-#[derive(Clone, Copy)]
+#[derive(Clone, Copy, Debug, PartialEq, Eq)]
 pub struct TimeFactors {
     // Of collateral and of the goods lent.
     pub deal: TimeFactor,
@@ -16,7 +16,7 @@ pub struct TimeFactors {
 }
 
 // Terms that opening a deal takes, and the factors of its own periods.
-#[derive(Clone, Copy)]
+#[derive(Clone, Copy, Debug, PartialEq, Eq)]
 pub struct TimedTerms {
     pub terms: Terms,
     pub factors: TimeFactors,

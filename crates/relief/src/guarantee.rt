@@ -22,7 +22,7 @@ use valuation::protection::Valuation;
 use valuation::restructuring::partially_recognised;
 
 // What is reported of it.
-#[derive(Clone, Copy)]
+#[derive(Clone, Copy, Debug, PartialEq, Eq)]
 pub struct GuaranteeReport {
     pub outcome: Outcome,
     // What it covers of the exposure after collateral.
@@ -38,7 +38,7 @@ impl GuaranteeReport {
 }
 
 // One guarantee's outcome, and what it covers with.
-#[derive(Clone, Copy)]
+#[derive(Clone, Copy, Debug, PartialEq, Eq)]
 pub struct ValuedGuarantee {
     pub outcome: Outcome,
     pub protection: Protection,

@@ -17,7 +17,7 @@ use deal::deal::Deal;
 use deal::guarantee::Guarantee;
 
 // In order of adding. Two arrays, since cover reads the protections alone, as one slice.
-#[derive(Clone, Copy)]
+#[derive(Clone, Copy, Debug, PartialEq, Eq)]
 pub struct GuaranteeValues {
     pub reports: [GuaranteeReport; Deal::GUARANTEE_LIMIT],
     pub protections: [Protection; Deal::GUARANTEE_LIMIT],

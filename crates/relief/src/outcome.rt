@@ -5,7 +5,7 @@ ghost use Rattle.relief.specs.Outcomes.{outcome_ground, outcome_left_out, outcom
 use crate::ground::Ground;
 use valuation::protection::Valuation;
 
-#[derive(Clone, Copy)]
+#[derive(Clone, Copy, Debug, PartialEq, Eq)]
 pub enum Outcome {
     Valued(Valuation),
     // Why, and the amount that is left out: all of it.

@@ -18,7 +18,7 @@ use deal::guarantee::Guarantee;
 use deal::refusal::Refusal;
 use valuation::exposure::risk_weighted_amount;
 
-#[derive(Clone, Copy)]
+#[derive(Clone, Copy, Debug, PartialEq, Eq)]
 pub struct Report {
     // A field beside the figures: the reply to a refused record is zeros beside its number (`refused_report`).
     pub answer: Result<(), Refusal>,

@@ -10,7 +10,7 @@ use crate::stored::{is_daily, over, stored_line, stored_whole};
 const WHOLE: u64 = 1_000_000;
 
 // The square-root-of-time factor of a holding period.
-#[derive(Clone, Copy)]
+#[derive(Clone, Copy, Debug, PartialEq, Eq)]
 pub struct TimeFactor {
     pub period: u64,
     // The whole scaled to the period, the square root of period / 10 in millionths, rounded up.

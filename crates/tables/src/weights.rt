@@ -7,7 +7,7 @@ use crate::classes::{BANK, CORPORATE, RETAIL, SOVEREIGN};
 use crate::version::Version;
 use crate::version_2019::Version2019;
 
-const RETAIL_WEIGHT: u64 = 75;
+pub const RETAIL_WEIGHT: u64 = 75;
 
 // A counterparty's, by its own step.
 #[tactic(auto, unfolding(crate::specs::Shared::own_weight_by))]
@@ -31,14 +31,14 @@ fn has_floor(edition: u64) -> bool
 }
 
 // Whether the floor is for a counterparty: an unrated bank or corporate.
-fn floor_for_counterparty(edition: u64, class: u64, step: u64) -> bool
+pub fn floor_for_counterparty(edition: u64, class: u64, step: u64) -> bool
     ensures { result ≡ floor_for_counterparty edition class step }
 {
     has_floor(edition) && step == 0 && (class == BANK || class == CORPORATE)
 }
 
 // Whether it is for a provider: an unrated bank.
-fn floor_for_provider(edition: u64, class: u64, step: u64) -> bool
+pub fn floor_for_provider(edition: u64, class: u64, step: u64) -> bool
     ensures { result ≡ floor_for_provider edition class step }
 {
     has_floor(edition) && step == 0 && class == BANK
@@ -46,7 +46,7 @@ fn floor_for_provider(edition: u64, class: u64, step: u64) -> bool
 
 // Where the floor applies, the larger of a party's own weight and its sovereign's, which is the same in every version.
 #[tactic(auto, unfolding(crate::specs::Weights::at_least_sovereign))]
-fn at_least_sovereign(applies: bool, own: u64, sovereign_step: u64) -> u64
+pub fn at_least_sovereign(applies: bool, own: u64, sovereign_step: u64) -> u64
     requires { sovereign_step ≤ 6 }
     ensures { result ≡ at_least_sovereign applies own sovereign_step }
 {

@@ -46,7 +46,7 @@ fn maturity_adjusted(value: u64, cover: u64, term: u64) -> u64
 }
 
 // What an item is worth, and what each step took of the amount that was sent. They add up to it.
-#[derive(Clone, Copy)]
+#[derive(Clone, Copy, Debug, PartialEq, Eq)]
 pub struct Valuation {
     pub value: u64,
     pub haircut_loss: u64,
