@@ -101,7 +101,8 @@ fn run(rt: &impl Print, line: &[u8], held: &mut Held) {
     }
 }
 
-// The first line, without its line feed, and what stands behind it; none where there is no line feed.
+// The first line, without its line feed, and what stands behind it; none where there is no line feed. Lines are cut so, one by one: over any
+// runtime the check refuses a `for` over `split`.
 fn cut_line(text: &[u8]) -> Option<(&[u8], &[u8])>
     ensures { IfSome result (λ cut. length cut.1.now < length text.now) }
 {
