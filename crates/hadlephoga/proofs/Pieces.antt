@@ -1,4 +1,4 @@
--- Pieces of a list of numbers, from which the places of an array are filled one by one. Assumes nothing.
+-- Pieces of a list of numbers, one for each place of an array. Assumes nothing.
 use Prim.Native.Nat.{ℕ, zero, suc, ◌+◌, ◌*◌, ◌-◌, ◌≤◌, ◌<◌}
 use mathlib.Core.Path.{◌≡◌, refl, sym, ap, ◌∙◌}
 use mathlib.Core.List.{List, [], ◌∷◌, map, ◌++◌, append-nil}
@@ -23,34 +23,6 @@ piece_at width (suc k) ns (suc i) h =
     let e : width + i * width ≡ suc i * width = omega arith in
     piece_at width k (drop width ns) i (le_of_suc-le-suc h)
     ∙ ap (take width) (drop-drop (i * width) width ns ∙ ap (λ (n : ℕ). drop n ns) e)
-
--- the part of the numbers that a loop takes for a place
-abbrev pub part : ℕ → List ℕ → ℕ → List ℕ
-part width ns at = take (at + width - at) (drop at ns)
-
-pub part_wide : (width : ℕ) (ns : List ℕ) (at : ℕ) → at + width ≤ length ns → width ≤ length (part width ns at)
-part_wide width ns at h =
-    let e : at + width - at ≡ width = omega arith in
-    omega (arith, length-take-le (at + width - at) (drop at ns) (omega (arith, e, length-drop at ns)), e)
-
--- so many places filled from so many slices
-module _ {A : Type 0} (f : List ℕ → A) (none : A) (width count places : ℕ) (ns : List ℕ) where
-  -- those of the first i slices
-  abbrev pub Filled : List A → ℕ → Type 0
-  Filled items i = items ≡ map f (take i (slices width count ns)) ++ drop i (replicate places none)
-
-  pub place_filled : (items : List A) (i : ℕ) (x : A) → i < count → i < places → Filled items i → x ≡ f (part width ns (i * width)) →
-      Filled (set items i x) (i + 1)
-  place_filled items i x h k filled e =
-      let n : i * width + width - i * width ≡ width = omega arith in
-      let here : x ≡ f (get_or (slices width count ns) i []) = e ∙ ap f (rw n (sym (piece_at width count ns i h))) in
-      rw (filled, here) (fill_more f [] i (slices width count ns) (replicate places none) (omega (arith, h, length_slices width count ns)) (omega (arith, k, length-replicate places none)))
-
--- and every place
-pub all_filled : {A : Type 0} (f : List ℕ → A) (none : A) (width count : ℕ) (ns : List ℕ) (items : List A) (i : ℕ) → i ≡ count →
-    Filled f none width count count ns items i → items ≡ map f (slices width count ns)
-all_filled f none width count ns items i e filled =
-    filled ∙ rw (e, take_all count (slices width count ns) (omega (arith, length_slices width count ns)), drop_of_length-le (replicate count none) {i = count} (omega (arith, length-replicate count none))) (append-nil _)
 
 -- what is written for each element, one behind the other, and read from the slices
 module _ {A : Type 0} (write : A → List ℕ) (read : List ℕ → A) (width : ℕ) where

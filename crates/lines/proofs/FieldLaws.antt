@@ -60,10 +60,6 @@ abbrev prepend : List ℕ → Option (List ℕ) → Option (List ℕ)
 prepend vs None = None
 prepend vs (Some ws) = Some (vs ++ ws)
 
-nothing_before : (o : Option (List ℕ)) → o ≡ prepend [] o
-nothing_before None = refl
-nothing_before (Some ws) = refl
-
 one_more : (vs : List ℕ) (v : ℕ) (o : Option (List ℕ)) → prepend vs (and_then v o) ≡ prepend (vs ++ v ∷ []) o
 unfolding and_then
 one_more vs v None = refl

@@ -7,7 +7,7 @@ use mathlib.Core.List.{List, [], ◌∷◌, ◌++◌, append_assoc}
 use native.Mathlib.Omega.{arith}
 use borrow.Author.Tests.{eqb-true}
 use lib.Dec.{eqb}
-use lib.ListN.{length, take, drop, get_or, length-append, length-drop, length-set}
+use lib.ListN.{length, take, drop, get_or, length-append, length-drop}
 use lib.Seq.{length-take-le, drop-length, get_or-append-add}
 use Rattle.base.specs.Writing.{placed_at, overwrite}
 use Rattle.base.proofs.Choice.{never}
@@ -70,10 +70,6 @@ module _ {xs : List ℕ} {at end : ℕ} {before after : List ℕ} (b : Back xs a
         room = b.room;
         holds = p.1 ∙ rw (b.holds, e) (placed_front r xs before n (omega (arith, b.fits, b.room, e)));
       }
-
-pushed_length : (skip : Bool) (n at r : ℕ) (before after : List ℕ) → Pushed skip n at before after r → length after ≡ length before
-pushed_length true n at r before after p = ap length p.1
-pushed_length false n at r before after p = ap length p.1 ∙ length-set before r n
 
 -- at the front
 back_whole : (xs : List ℕ) (at : ℕ) (before after : List ℕ) → Back xs at (length xs) before after → after ≡ overwrite xs before

@@ -46,10 +46,6 @@ unfoldable pub last_digits : ℕ → ℕ → List ℕ
 last_digits zero n = []
 last_digits (suc k) n = last_digits k (n / 10) ++ (48 + n % 10) ∷ []
 
-pub last_none : (k n : ℕ) → k ≡ 0 → last_digits k n ≡ []
-unfolding last_digits
-last_none k n e = rw e
-
 pub last_more : (j k n : ℕ) → k ≡ suc j → last_digits k n ≡ last_digits j (n / 10) ++ (48 + n % 10) ∷ []
 unfolding last_digits
 last_more j k n e = rw e

@@ -2,12 +2,10 @@
 use Prim.Native.Nat.{ℕ, ◌+◌, ◌*◌, ◌<◌, ◌^◌}
 use mathlib.Core.Path.{◌≡◌, refl, sym, ap, subst, ◌∙◌}
 use mathlib.Core.Bool.{false}
-use native.Mathlib.Omega.{arith}
-use lib.Dec.{T}
 use lib.IntN.{ℤ, pos, negsuc, nat_abs, ◌+ℤ◌, ◌-ℤ◌, ◌*ℤ◌}
-use lib.Signed.{lt_z, non_neg}
+use lib.Signed.{lt_z}
 use mir.Syntax.{w64}
-use mir.Val.{SFits, Fits, to_z, of_z}
+use mir.Val.{SFits, to_z, of_z}
 use mir.Facts as facts
 use Rattle.base.proofs.Choice.{never}
 use Rattle.signed.specs.Signed.{◌less◌}
@@ -42,11 +40,6 @@ times x a b m e = ap (λ z. z *ℤ pos m) e ∙ less_mul a b m
 pub not_negative : (z : ℤ) → lt_z z (pos 0) ≡ false → z ≡ pos (nat_abs z)
 not_negative (pos n) t = refl
 not_negative (negsuc n) t = absurd (never refl t)
-
--- a cast to unsigned, of a number that was tested and whose range is all that is known
-pub tested_casts : (z : ℤ) → SFits w64 z → lt_z z (pos 0) ≡ false → T (non_neg z) × Fits w64 (nat_abs z)
-tested_casts (pos n) f t = (tt, record { fits = omega (arith, f.sfits) })
-tested_casts (negsuc n) f t = absurd (never refl t)
 
 pub pos_fits : (n : ℕ) → n < 2 ^ 63 → SFits w64 (pos n)
 pos_fits n h = record { sfits = h }
