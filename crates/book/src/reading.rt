@@ -16,7 +16,7 @@ use deal::collateral::CollateralList;
 use deal::guarantee::GuaranteeList;
 use lines::line::{Line, read_line};
 use relief::bare::Amounts;
-use relief::factors::{TimeFactors, TimedTerms};
+use relief::factors::{AcceptedTerms, TimeFactors};
 use relief::report::full_report;
 use text::line_end;
 
@@ -103,10 +103,10 @@ fn refused(text: &[u8], start: usize, number: u64, refusal: LineRefusal) -> Deal
 
 // A deal opened on these terms by the line with this number, from its further lines on. Each goes into its list as adding does it. By a place,
 // as above.
-fn with_items(text: &[u8], start: usize, number: u64, deal: &TimedTerms) -> DealResult
+fn with_items(text: &[u8], start: usize, number: u64, deal: &AcceptedTerms) -> DealResult
     requires { (start ≤ length text.now) × (number + 1 + length text.now ≤ 65536 + start) }
     ensures lines_read { LinesRead text.now start (number + 1) result.end result.next }
-    ensures text_value { lines_answer number (number + 1) (opened_deal deal.now.terms) (own_lines (lines_of (drop start text.now))) ≡ answer_sent result.answer }
+    ensures text_value { lines_answer number (number + 1) (opened_deal deal.now.timed.terms) (own_lines (lines_of (drop start text.now))) ≡ answer_sent result.answer }
 {
     let mut items = Items {
         collateral: CollateralList::empty(),
@@ -116,7 +116,7 @@ fn with_items(text: &[u8], start: usize, number: u64, deal: &TimedTerms) -> Deal
     let mut next = number + 1;
     while own_line(text, at) {
         let end = line_end(text, at);
-        let line = read_line(deal.terms.edition, &text[at..end]);
+        let line = read_line(deal.timed.terms.edition, &text[at..end]);
         if let Err(refusal) = items.add(line) {
             return refused(text, end, next, refusal);
         }
@@ -141,10 +141,10 @@ fn with_items(text: &[u8], start: usize, number: u64, deal: &TimedTerms) -> Deal
 }
 
 // The same, where the deal may have no further line: its amounts then need no list.
-fn opened(text: &[u8], start: usize, number: u64, deal: &TimedTerms) -> DealResult
+fn opened(text: &[u8], start: usize, number: u64, deal: &AcceptedTerms) -> DealResult
     requires { (start ≤ length text.now) × (number + 1 + length text.now ≤ 65536 + start) }
     ensures lines_read { LinesRead text.now start (number + 1) result.end result.next }
-    ensures text_value { lines_answer number (number + 1) (opened_deal deal.now.terms) (own_lines (lines_of (drop start text.now))) ≡ answer_sent result.answer }
+    ensures text_value { lines_answer number (number + 1) (opened_deal deal.now.timed.terms) (own_lines (lines_of (drop start text.now))) ≡ answer_sent result.answer }
 {
     if own_line(text, start) {
         return with_items(text, start, number, deal);
@@ -172,7 +172,7 @@ pub fn answer_deal(edition: u64, text: &[u8], number: u64, factors: TimeFactors)
             let deal = factors.for_terms(terms);
             ResultAndFactors {
                 result: opened(text, end, number, &deal),
-                factors: deal.factors,
+                factors: deal.timed.factors,
             }
         }
     }

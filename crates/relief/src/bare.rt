@@ -4,7 +4,7 @@ ghost use Rattle.deal.specs.Editions.{table_for};
 ghost use Rattle.deal.specs.Views.{unprotected};
 ghost use Rattle.relief.specs.Exposure.{exposure_after, risk_weighted_amount_of};
 
-use crate::factors::TimedTerms;
+use crate::factors::AcceptedTerms;
 use valuation::exposure::risk_weighted_amount;
 
 #[derive(Clone, Copy, Debug, PartialEq, Eq)]
@@ -15,10 +15,10 @@ pub struct Amounts {
     pub rwa: u64,
 }
 
-impl TimedTerms {
+impl AcceptedTerms {
     // What the report of such a deal has.
     pub fn bare_amounts(&self) -> Amounts
-        ensures { (result.exposure ≡ exposure_after (table_for self.now.terms) (unprotected self.now.terms)) × (result.rwa ≡ risk_weighted_amount_of (table_for self.now.terms) (unprotected self.now.terms)) }
+        ensures { (result.exposure ≡ exposure_after (table_for self.now.timed.terms) (unprotected self.now.timed.terms)) × (result.rwa ≡ risk_weighted_amount_of (table_for self.now.timed.terms) (unprotected self.now.timed.terms)) }
     {
         let exposure = self.exposure_after(0);
         let weight = self.weight();

@@ -78,7 +78,7 @@ fn outcome_after_haircut(terms: Terms, item: Collateral, haircut: u64) -> Outcom
 impl TimedTerms {
     // One item of collateral, under the time factor of the deal's period.
     #[tactic(auto, using(tables::proofs::EditionBounds::haircut_low), unfolding(deal::specs::Editions::table_for, crate::specs::Collateral::combined_haircut_of))]
-    fn collateral_outcome(&self, item: Collateral) -> Outcome
+    pub fn collateral_outcome(&self, item: Collateral) -> Outcome
         requires { item.amount ≤ 1000000000000 }
         ensures { result ≡ collateral_outcome (table_for self.now.terms) self.now.terms item }
     {

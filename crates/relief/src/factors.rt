@@ -1,4 +1,4 @@
-// A deal's terms with the time factors of its holding periods. Deals that stand one behind the other often share these.
+// A deal's terms with the time factors of its holding periods. Deals that stand one behind the other often share these factors.
 ghost use Rattle.std.specs.Prelude.{◌≡◌};
 ghost use Rattle.scaling.specs.Period.{guarantee_period, holding_period};
 ghost use Rattle.deal.specs.Terms.{terms_refusal};
@@ -15,14 +15,20 @@ pub struct TimeFactors {
     pub guarantees: TimeFactor,
 }
 
-// Terms that opening a deal takes, and the factors of its own periods.
+// Terms, and the factors of their own periods.
 #[derive(Clone, Copy, Debug, PartialEq, Eq)]
 pub struct TimedTerms {
     pub terms: Terms,
     pub factors: TimeFactors,
-    pub ghost not_refused: { terms_refusal terms ≡ 0 },
     pub ghost deal_period: { factors.deal.period ≡ holding_period terms.kind terms.interval },
     pub ghost guarantee_period: { factors.guarantees.period ≡ guarantee_period terms.interval },
+}
+
+// Those of terms that opening a deal takes. A type of its own: what collateral and guarantees are worth is promised for refused terms, too.
+#[derive(Clone, Copy, Debug, PartialEq, Eq)]
+pub struct AcceptedTerms {
+    pub timed: TimedTerms,
+    pub ghost not_refused: { terms_refusal timed.terms ≡ 0 },
 }
 
 impl TimeFactors {
@@ -41,9 +47,9 @@ impl TimeFactors {
 
     // Those of a deal, some of which may be at hand.
     #[tactic(auto, using(deal::proofs::Plain::plain_terms, scaling::proofs::Periods::period_bound, scaling::proofs::Periods::guarantee_bound))]
-    pub fn for_terms(self, terms: Terms) -> TimedTerms
+    pub fn for_terms(self, terms: Terms) -> AcceptedTerms
         requires { terms_refusal terms ≡ 0 }
-        ensures { result.terms ≡ terms }
+        ensures { result.timed.terms ≡ terms }
     {
         let holding = holding_period(terms.kind, terms.interval);
         let guaranteed = guarantee_period(terms.interval);
@@ -51,6 +57,7 @@ impl TimeFactors {
             deal: self.deal.for_period(holding),
             guarantees: self.guarantees.for_period(guaranteed),
         };
-        TimedTerms { terms, factors }
+        let timed = TimedTerms { terms, factors };
+        AcceptedTerms { timed }
     }
 }

@@ -8,7 +8,7 @@ ghost use Rattle.relief.specs.ByNumber.{collateral_by_number, guarantees_by_numb
 ghost use Rattle.relief.specs.Report.{full_report, refused_report, report_of, report_refusal};
 
 use crate::collateral::CollateralReport;
-use crate::factors::{TimeFactors, TimedTerms};
+use crate::factors::{AcceptedTerms, TimeFactors};
 use crate::guarantee::GuaranteeReport;
 use crate::portions::with_portions;
 use cover::cover::cover;
@@ -48,13 +48,18 @@ pub fn refused() -> Report
 }
 
 // The report of an accepted deal on these terms, with these items.
-pub fn full_report(deal: &TimedTerms, collateral: &[Collateral], guarantees: &[Guarantee]) -> Report
-    requires { accepted_view (view_on deal.now.terms collateral.now guarantees.now) ≡ true }
-    ensures { result ≡ full_report (table_for deal.now.terms) (view_on deal.now.terms collateral.now guarantees.now) }
+pub fn full_report(
+    deal: &AcceptedTerms,
+    collateral: &[Collateral],
+    guarantees: &[Guarantee],
+) -> Report
+    requires { accepted_view (view_on deal.now.timed.terms collateral.now guarantees.now) ≡ true }
+    ensures { result ≡ full_report (table_for deal.now.timed.terms) (view_on deal.now.timed.terms collateral.now guarantees.now) }
 {
     let weight = deal.weight();
-    let pledged = deal.value_collateral(collateral);
-    let guaranteed = deal.value_guarantees(guarantees, weight);
+    let timed = deal.timed;
+    let pledged = timed.value_collateral(collateral);
+    let guaranteed = timed.value_guarantees(guarantees, weight);
     let exposure = deal.exposure_after(pledged.total);
     let count = guarantees.len();
     let covered = cover(&guaranteed.protections[..count], exposure, weight);
@@ -79,11 +84,11 @@ impl Report {
         if !deal.accepted() {
             return refused();
         }
-        let timed = TimeFactors::none().for_terms(deal.terms);
+        let accepted = TimeFactors::none().for_terms(deal.terms);
         let collateral = deal.collateral;
         let guarantees = deal.guarantees;
         full_report(
-            &timed,
+            &accepted,
             &collateral.items[..collateral.count],
             &guarantees.items[..guarantees.count],
         )

@@ -3,18 +3,19 @@ ghost use Rattle.std.specs.Prelude.{◌≡◌};
 ghost use Rattle.deal.specs.Editions.{table_for};
 ghost use Rattle.relief.specs.Weights.{counterparty_weight_of};
 
-use crate::factors::TimedTerms;
+use crate::factors::AcceptedTerms;
 use tables::editions::counterparty_weight_under;
 
-impl TimedTerms {
+impl AcceptedTerms {
     // Under the deal's own tables.
     #[tactic(auto, using(deal::proofs::Plain::plain_terms), unfolding(deal::specs::Editions::table_for))]
     pub fn weight(&self) -> u64
-        ensures { result ≡ counterparty_weight_of (table_for self.now.terms) self.now.terms }
+        ensures { result ≡ counterparty_weight_of (table_for self.now.timed.terms) self.now.timed.terms }
     {
-        let counterparty = self.terms.counterparty;
+        let terms = self.timed.terms;
+        let counterparty = terms.counterparty;
         counterparty_weight_under(
-            self.terms.edition,
+            terms.edition,
             counterparty.class,
             counterparty.step,
             counterparty.sovereign_step,

@@ -69,9 +69,9 @@ returns-in-Ok-clause-answered c =
     let number = c.args.number in
     let line = read c.args.edition text (ends _ c.line_end-end.ensures) c.read_line.ensures in
     let opens : 0 ≡ opening_refusal c.read_line.result = ap line_answer_number (sym c.in-Ok.is) ∙ c.opening.ensures.refusal in
-    let terms : c.for_terms-deal.result.terms ≡ opening_terms (line_of c.args.edition (first_line text)) = c.for_terms-deal.ensures ∙ c.in-Ok.ensures.terms ∙ ap opening_terms line in
+    let terms : c.for_terms-deal.result.timed.terms ≡ opening_terms (line_of c.args.edition (first_line text)) = c.for_terms-deal.ensures ∙ c.in-Ok.ensures.terms ∙ ap opening_terms line in
     let lines : ℕ → Terms → List ℕ = λ n t. lines_answer number (number + 1) (opened_deal t) (own_lines (lines_of (drop n text))) in
     opened_answer c.args.edition (first_deal number text) (sym (opens ∙ ap opening_refusal line))
     ∙ ap (lines (length (first_line text))) (sym terms)
-    ∙ ap (λ n. lines n c.for_terms-deal.result.terms) (sym (ends _ c.line_end-end.ensures))
+    ∙ ap (λ n. lines n c.for_terms-deal.result.timed.terms) (sym (ends _ c.line_end-end.ensures))
     ∙ c.opened.ensures.text_value

@@ -32,7 +32,7 @@ done t i fits s r e = done_as (item_done t i fits _) s r (ap (λ x. x.collateral
 
 pub loop-end-init : goal.loop-end-init
 loop-end-init c =
-    let first = held_first c.args.text.now c.args.start c.args.number c.args.deal.now.terms c.args.deal.now.not_refused c.requires.0 in
+    let first = held_first c.args.text.now c.args.start c.args.number c.args.deal.now.timed.terms c.args.deal.now.not_refused c.requires.0 in
     rw (c.empty.ensures, c.empty-2.ensures) first
 
 pub slice_bounds-read_line-end : goal.slice_bounds-read_line-end
@@ -52,8 +52,8 @@ returns-in-Err-clause-text_value c =
     let deal = c.args.deal.now in
     let ends = own_line_ends _ _ _ c.loop-end.invariant.passed.inside (sym c.own_line.ensures ∙ c.loop-end-test.true) c.line_end-end.ensures in
     let number : line_refusal_number c.in-Err.refusal ≡ item_refusal c.loop-end.items c.read_line-line.result = ap line_answer_number (sym c.in-Err.is) ∙ c.add.ensures.refusal in
-    let line = read text deal.terms.edition c.loop-end.at c.line_end-end.ensures c.read_line-line.ensures in
-    held_refused _ _ _ _ _ _ _ _ c.loop-end.invariant _ ends c.line_end-end.ensures (done deal.terms c.loop-end.items c.loop-end.invariant.fits line number c.add.ensures.items_after) (refusal_some _)
+    let line = read text deal.timed.terms.edition c.loop-end.at c.line_end-end.ensures c.read_line-line.ensures in
+    held_refused _ _ _ _ _ _ _ _ c.loop-end.invariant _ ends c.line_end-end.ensures (done deal.timed.terms c.loop-end.items c.loop-end.invariant.fits line number c.add.ensures.items_after) (refusal_some _)
     ∙ sym c.refused.ensures.answer
 
 pub loop-end-smaller : goal.loop-end-smaller
@@ -66,8 +66,8 @@ loop-end-preserved c =
     let text = c.args.text.now in
     let deal = c.args.deal.now in
     let ends = own_line_ends _ _ _ c.loop-end.invariant.passed.inside (sym c.own_line.ensures ∙ c.loop-end-test.true) c.line_end-end.ensures in
-    let line = read text deal.terms.edition c.loop-end.at c.line_end-end.ensures c.read_line-line.ensures in
-    held_next _ _ _ _ _ _ _ _ c.loop-end.invariant _ ends c.line_end-end.ensures (done deal.terms c.loop-end.items c.loop-end.invariant.fits line c.add.ensures.refusal c.add.ensures.items_after) (unrefused _ c.in_default.not-Err)
+    let line = read text deal.timed.terms.edition c.loop-end.at c.line_end-end.ensures c.read_line-line.ensures in
+    held_next _ _ _ _ _ _ _ _ c.loop-end.invariant _ ends c.line_end-end.ensures (done deal.timed.terms c.loop-end.items c.loop-end.invariant.fits line c.add.ensures.refusal c.add.ensures.items_after) (unrefused _ c.in_default.not-Err)
 
 pub shared_ref_as_front-full_report : goal.shared_ref_as_front-full_report
 shared_ref_as_front-full_report c = collateral_count _ (allowed_parts _ c.loop-end.invariant.fits).1.0
@@ -76,7 +76,7 @@ pub shared_ref_as_front-full_report-2 : goal.shared_ref_as_front-full_report-2
 shared_ref_as_front-full_report-2 c = guarantee_count _ (allowed_parts _ c.loop-end.invariant.fits).1.1
 
 pub full_report-report-requires : goal.full_report-report-requires
-full_report-report-requires c = accepted_view_lem (deal_of c.args.deal.now.terms c.loop-end.items.collateral c.loop-end.items.guarantees) (allowed_accepted _ c.loop-end.invariant.fits)
+full_report-report-requires c = accepted_view_lem (deal_of c.args.deal.now.timed.terms c.loop-end.items.collateral c.loop-end.items.guarantees) (allowed_accepted _ c.loop-end.invariant.fits)
 
 pub returns-clause-text_value : goal.returns-clause-text_value
 unfolding full_report answer_sent

@@ -41,20 +41,20 @@ value_guarantees-guaranteed-requires-clause-items_value c = let f = view_fits _ 
 
 pub cover-covered-requires-clause-exposure_bound : goal.cover-covered-requires-clause-exposure_bound
 cover-covered-requires-clause-exposure_bound c =
-    let v = view_on c.args.deal.now.terms c.args.collateral.now c.args.guarantees.now in
+    let v = view_on c.args.deal.now.timed.terms c.args.collateral.now c.args.guarantees.now in
     omega (arith, exposure-is v c.exposure_after-exposure.ensures c.value_collateral-pledged.ensures.1, exposure_bound (table_for v.terms) v, (plain v c.requires).amount)
 
 pub cover-covered-requires-clause-weight_bound : goal.cover-covered-requires-clause-weight_bound
-cover-covered-requires-clause-weight_bound c = omega (arith, c.weight-weight.ensures, counterparty_low c.args.deal.now.terms (plain _ c.requires))
+cover-covered-requires-clause-weight_bound c = omega (arith, c.weight-weight.ensures, counterparty_low c.args.deal.now.timed.terms (plain _ c.requires))
 
 pub cover-covered-requires-clause-within_limits_value : goal.cover-covered-requires-clause-within_limits_value
 cover-covered-requires-clause-within_limits_value c =
-    let v = view_on c.args.deal.now.terms c.args.collateral.now c.args.guarantees.now in
+    let v = view_on c.args.deal.now.timed.terms c.args.collateral.now c.args.guarantees.now in
     rw (pieces_are v c.value_guarantees-guaranteed.ensures.protections_value) (pieces_small v.terms v.guarantees (view_fits v c.requires).guarantees)
 
 pub risk_weighted_amount-requires : goal.risk_weighted_amount-requires
 risk_weighted_amount-requires c =
-    let v = view_on c.args.deal.now.terms c.args.collateral.now c.args.guarantees.now in
+    let v = view_on c.args.deal.now.timed.terms c.args.collateral.now c.args.guarantees.now in
     let exposure = exposure-is v c.exposure_after-exposure.ensures c.value_collateral-pledged.ensures.1 in
     let cover = c.cover-covered.ensures ∙ same_cover c.weight-weight.ensures exposure (pieces_are v c.value_guarantees-guaranteed.ensures.protections_value) in
     omega (arith, ap (λ x. x.weighted_sum) cover, sum_low v (plain v c.requires) (view_fits v c.requires).guarantees)
@@ -62,7 +62,7 @@ risk_weighted_amount-requires c =
 pub returns : goal.returns
 unfolding full_report risk_weighted_amount_of
 returns c =
-    let v = view_on c.args.deal.now.terms c.args.collateral.now c.args.guarantees.now in
+    let v = view_on c.args.deal.now.timed.terms c.args.collateral.now c.args.guarantees.now in
     let exposure = exposure-is v c.exposure_after-exposure.ensures c.value_collateral-pledged.ensures.1 in
     let cover = c.cover-covered.ensures ∙ same_cover c.weight-weight.ensures exposure (pieces_are v c.value_guarantees-guaranteed.ensures.protections_value) in
     same_report (Ok tt)

@@ -43,21 +43,21 @@ pub shared_ref_as_front-full_report-2 : goal.shared_ref_as_front-full_report-2
 shared_ref_as_front-full_report-2 c = guarantee_count _ (allowed_parts _ (accepted_allowed _ (told_true _ _ c.accepted.ensures c.if-not-accepted.false))).1.1
 
 pub full_report-requires : goal.full_report-requires
-full_report-requires c = rw c.for_terms-timed.ensures (accepted_view_lem c.args.deal (told_true _ _ c.accepted.ensures c.if-not-accepted.false))
+full_report-requires c = rw c.for_terms-accepted.ensures (accepted_view_lem c.args.deal (told_true _ _ c.accepted.ensures c.if-not-accepted.false))
 
-pub for_terms-timed-requires : goal.for_terms-timed-requires
-for_terms-timed-requires c = (allowed_parts _ (accepted_allowed _ (told_true _ _ c.accepted.ensures c.if-not-accepted.false))).0
+pub for_terms-accepted-requires : goal.for_terms-accepted-requires
+for_terms-accepted-requires c = (allowed_parts _ (accepted_allowed _ (told_true _ _ c.accepted.ensures c.if-not-accepted.false))).0
 
 pub returns-clause-report : goal.returns-clause-report
 unfolding report_refusal full_report answer_number refusal_number first_or
 returns-clause-report c =
     let d = c.args.deal in
     let e : accepted d ≡ true = told_true _ _ c.accepted.ensures c.if-not-accepted.false in
-    let r : c.full_report.result ≡ full_report (table_for d.terms) (view_of d) = rw c.for_terms-timed.ensures at c.full_report.ensures in
+    let r : c.full_report.result ≡ full_report (table_for d.terms) (view_of d) = rw c.for_terms-accepted.ensures at c.full_report.ensures in
     (ap (λ x. answer_number x.answer) r ∙ sym (not_met 40 _ [] (not_false _ e)), r ∙ sym (report_accepted _ d e))
 
 pub returns-clause-by_number : goal.returns-clause-by_number
 returns-clause-by_number c =
     let d = c.args.deal in
-    let r : c.full_report.result ≡ full_report (table_for d.terms) (view_of d) = rw c.for_terms-timed.ensures at c.full_report.ensures in
+    let r : c.full_report.result ≡ full_report (table_for d.terms) (view_of d) = rw c.for_terms-accepted.ensures at c.full_report.ensures in
     by_number d _ (r ∙ sym (report_accepted _ d (told_true _ _ c.accepted.ensures c.if-not-accepted.false)))

@@ -1,4 +1,4 @@
--- `relief::bare::TimedTerms::bare_amounts`: all of the exposure bears the counterparty's weight. Assumes nothing.
+-- `relief::bare::AcceptedTerms::bare_amounts`: all of the exposure bears the counterparty's weight. Assumes nothing.
 use Rattle.std.proofs.Common.{◌≡◌, ◌*◌, ◌≤◌, refl, sym, ap, ◌∙◌, arith, rules, []}
 use Rattle.base.specs.Sum.{sum_of}
 use Rattle.valuation.specs.Exposure.{risk_weighted_amount}
@@ -12,11 +12,11 @@ use Rattle.deal.proofs.Plain.{plain_terms}
 use Rattle.relief.specs.Weights.{counterparty_weight_of}
 use Rattle.relief.specs.Exposure.{collateral_total, exposure_after, risk_weighted_amount_of}
 use Rattle.relief.proofs.ValueBounds.{sum_low}
-use Rattle.relief.proofs.factors.TimedTerms.bare_amounts.Goals as goal
+use Rattle.relief.proofs.factors.AcceptedTerms.bare_amounts.Goals as goal
 
 module _ (c : goal.After-weight-weight) where
   abbrev terms : Terms
-  terms = c.args.self.now.terms
+  terms = c.args.self.now.timed.terms
 
   exposure-is : c.exposure_after-exposure.result ≡ exposure_after (table_for terms) (unprotected terms)
   unfolding exposure_after collateral_total sum_of
