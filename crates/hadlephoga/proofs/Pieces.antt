@@ -24,6 +24,10 @@ piece_at width (suc k) ns (suc i) h =
     piece_at width k (drop width ns) i (le_of_suc-le-suc h)
     ∙ ap (take width) (drop-drop (i * width) width ns ∙ ap (λ (n : ℕ). drop n ns) e)
 
+-- the part of the numbers that a place is made from
+abbrev pub part : ℕ → List ℕ → ℕ → List ℕ
+part width ns at = take (at + width - at) (drop at ns)
+
 -- what is written for each element, one behind the other, and read from the slices
 module _ {A : Type 0} (write : A → List ℕ) (read : List ℕ → A) (width : ℕ) where
   pub read_back : ((x : A) → length (write x) ≡ width) → ((x : A) → read (write x) ≡ x) → (xs : List A) →

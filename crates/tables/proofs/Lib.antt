@@ -7,6 +7,7 @@ pub mod Bands2023
 pub mod TableTest
 pub mod Laws
 pub mod Versions
+pub mod Instances
 pub mod Bounds
 pub mod Bounds2023
 pub mod EveryHaircut
