@@ -27,7 +27,7 @@ pub fn numbers<'a>(line: &[u8], places: &'a mut [u64; ROOM]) -> &'a [u64] {
 }
 
 // What the bytes of a line have come to.
-#[derive(Clone, Copy)]
+#[derive(Clone, Copy, Debug, PartialEq, Eq)]
 pub enum Reading {
     Word,
     Number,

@@ -7,7 +7,7 @@ ghost use Rattle.mail.specs.Working.{BytePassed, FourBefore, Measured, Measuring
 use crate::place::{Place, SPACE, no_feed_in_four, past_byte, past_feed};
 use text::LINE_FEED;
 
-#[derive(Clone, Copy)]
+#[derive(Clone, Copy, Debug, PartialEq, Eq)]
 pub struct Sizes {
     // Bytes that are dropped.
     pub dropped: usize,
@@ -18,7 +18,7 @@ pub struct Sizes {
 }
 
 // What was found behind a place; its own line is not among the altered ones yet.
-#[derive(Clone, Copy)]
+#[derive(Clone, Copy, Debug, PartialEq, Eq)]
 struct Passed {
     place: Place,
     sizes: Sizes,

@@ -10,7 +10,7 @@ pub const SPACE: u8 = 32;
 
 const CARRIAGE_RETURN: u8 = 13;
 
-#[derive(Clone, Copy)]
+#[derive(Clone, Copy, Debug, PartialEq, Eq)]
 pub struct Place {
     pub at: usize,
     // Whether a space stands behind it.

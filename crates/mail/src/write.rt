@@ -12,7 +12,7 @@ use crate::place::{Place, SPACE, no_feed_in_four, past_byte, past_feed};
 use text::{LINE_FEED, TAB};
 
 // What stands behind a place is written.
-#[derive(Clone, Copy)]
+#[derive(Clone, Copy, Debug, PartialEq, Eq)]
 struct Filled {
     place: Place,
     // Where it starts in the buffer.

@@ -10,7 +10,7 @@ use crate::terms::SetTerms;
 use valuation::exposure::risk_weighted_amount;
 
 // A set by value, with no heap: the counted positions stand first. One that says it has more than there are places for is refused.
-#[derive(Clone, Copy)]
+#[derive(Clone, Copy, Debug, PartialEq, Eq)]
 pub struct NettingSet {
     pub terms: SetTerms,
     pub positions: [Position; NettingSet::POSITION_LIMIT],

@@ -14,7 +14,7 @@ const FIRST_TABLE: u64 = 2;
 
 const LAST_TABLE: u64 = 3;
 
-#[derive(Clone, Copy)]
+#[derive(Clone, Copy, Debug, PartialEq, Eq)]
 pub struct SetTerms {
     // The number of the tables, which is an edition's with the sovereign floor.
     pub table: u64,

@@ -10,7 +10,7 @@ use text::LINE_FEED;
 // The longest line of a number: 20 digits and a line feed.
 const LONGEST_LINE: usize = 21;
 
-// The lines of so many numbers, one behind the other.
+// The lines of so many numbers, one behind the other. A count beside the list, as `number_lines` takes both.
 fn put_numbers(out: &mut [u8], at: usize, numbers: &[u64], count: usize) -> usize
     requires { (count ≤ length numbers.now) × (at + 21 * count ≤ length out.old) }
     ensures { Placed at (number_lines count numbers.now) out.old out.new result }

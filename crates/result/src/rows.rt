@@ -31,7 +31,7 @@ fn put_row(out: &mut [u8], at: usize, numbers: &[u64; 4]) -> usize
     put_field(out, fourth, numbers[3], LINE_FEED)
 }
 
-// The lines of so many deals, one behind the other.
+// The lines of so many deals, one behind the other. A count beside the list, as `rows` takes both.
 pub fn put_rows(out: &mut [u8], at: usize, results: &[u64], deals: usize) -> usize
     requires { (4 * deals ≤ length results.now) × (at + 84 * deals ≤ length out.old) }
     ensures { Placed at (rows deals results.now) out.old out.new result }
