@@ -19,6 +19,7 @@ pub enum LineRefusal {
 }
 
 impl LineRefusal {
+    // A method and no `From`: docs/TRACE.md names it, and what it gives is a definition's number.
     #[tactic(auto, unfolding(crate::specs::Reply::line_refusal_number))]
     pub fn number(self) -> u64
         ensures { result ≡ line_refusal_number self }

@@ -18,6 +18,7 @@ pub enum BookRefusal {
 }
 
 impl BookRefusal {
+    // A method and no `From`: docs/TRACE.md names it, and what it gives is a definition's number.
     #[tactic(auto, unfolding(crate::specs::Reply::book_refusal_number))]
     pub fn number(self) -> u64
         ensures { result ≡ book_refusal_number self }

@@ -4,6 +4,7 @@ use crate::fields::Reading;
 // Room for more than the longest book.
 pub const BYTES: usize = 65_600;
 
+// An array and a count: there is no heap.
 #[derive(Drop)]
 pub struct Front {
     bytes: [u8; BYTES],

@@ -71,7 +71,8 @@ impl Deal {
         self.allowed()
     }
 
-    // One more item of collateral; the same deal beside a refusal. Adding a guarantee is the same of another field, which no parameter can name.
+    // One more item of collateral; the same deal beside a refusal. Adding a guarantee is the same of another field; a closure
+    // that names the field would be no plainer.
     pub fn add_collateral(mut self, item: Collateral) -> Added<Deal>
         ensures { (answer_number result.answer ≡ add_collateral_refusal self item) × (result.after ≡ with_collateral self item) }
     {

@@ -16,6 +16,7 @@ pub enum Refusal {
 }
 
 impl Refusal {
+    // A method and no `From`: docs/TRACE.md names it, and what it gives is a definition's number.
     #[tactic(auto, unfolding(crate::specs::Answers::refusal_number))]
     pub fn number(self) -> u64
         ensures { result ≡ refusal_number self }

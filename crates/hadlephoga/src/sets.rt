@@ -21,6 +21,7 @@ pub enum NumbersRefusal {
 }
 
 impl NumbersRefusal {
+    // A method and no `From`: docs/TRACE.md names it, and what it gives is a definition's number.
     #[tactic(auto, unfolding(crate::specs::Netting::numbers_refusal_number))]
     pub fn number(self) -> u64
         ensures { result ≡ numbers_refusal_number self }

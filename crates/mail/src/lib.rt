@@ -21,7 +21,7 @@ pub enum RepairRefusal {
 }
 
 impl RepairRefusal {
-    // As replies send it.
+    // As replies send it. A method and no `From`: docs/TRACE.md names it, and what it gives is a definition's number.
     #[tactic(auto, unfolding(crate::specs::Reply::refusal_number))]
     pub fn number(self) -> u64
         ensures { result ≡ refusal_number self }

@@ -48,7 +48,7 @@ fn pass_byte(b: u8, passed: Passed) -> Passed
     }
 }
 
-// Over a line feed, and the carriage returns in front of it.
+// Over a line feed, and the carriage returns in front of it. The book goes along with what is passed, as `Measuring` is said of both.
 fn pass_feed(book: &[u8], passed: Passed) -> Passed
     requires { (0 < passed.place.at) × ((byte_before book.now passed.place ≡ line_feed) × Measuring book.now passed.place passed.sizes) }
     ensures { (result.place.at < passed.place.at) × Measuring book.now result.place result.sizes }

@@ -24,6 +24,7 @@ pub enum SetRefusal {
 }
 
 impl SetRefusal {
+    // A method and no `From`: docs/TRACE.md names it, and what it gives is a definition's number.
     #[tactic(auto, unfolding(crate::specs::Reply::set_refusal_number))]
     pub fn number(self) -> u64
         ensures { result ≡ set_refusal_number self }

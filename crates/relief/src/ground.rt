@@ -16,6 +16,7 @@ pub enum Ground {
 }
 
 impl Ground {
+    // A method and no `From`: docs/TRACE.md names it, and what it gives is a definition's number.
     #[tactic(auto, unfolding(crate::specs::Grounds::ground_number))]
     pub fn number(self) -> u64
         ensures { result ≡ ground_number self }

@@ -9,7 +9,7 @@ ghost use Rattle.relief.specs.Portions.{covering};
 use crate::guarantee::GuaranteeReport;
 use deal::deal::Deal;
 
-// The reports with their portions, in order of adding.
+// The reports with their portions, in order of adding. Two slices, since the portions are cover's own answer.
 pub fn with_portions(
     values: &[GuaranteeReport],
     portions: &[u64],

@@ -19,6 +19,7 @@ use rows::put_rows;
 const LONGEST_ROW: usize = 84;
 
 // The text of a book's result, from the front of a lent buffer, and its length. The refusal is a number, as replies send it; any is written.
+// A count beside the list, as `written` takes both, also where the list is too short.
 pub fn write_result(refusal: u64, deals: usize, results: &[u64], out: &mut [u8]) -> usize
     ensures { let text = written refusal deals results.now (length out.old) in
         (result ≡ length text) × (out.new ≡ text ++ drop (length text) out.old) }

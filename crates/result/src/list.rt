@@ -23,7 +23,7 @@ fn put_numbers(out: &mut [u8], at: usize, numbers: &[u64], count: usize) -> usiz
 }
 
 // The text of a list's numbers, one a line, or of a refusal, from the front of a lent buffer, and its length. The refusal is a number, as replies
-// send it; any is written.
+// send it; any is written. A count beside the list, as `list_written` takes both, also where the list is too short.
 pub fn write_list(refusal: u64, count: usize, numbers: &[u64], out: &mut [u8]) -> usize
     ensures { let text = list_written refusal count numbers.now (length out.old) in
         (result ≡ length text) × (out.new ≡ text ++ drop (length text) out.old) }

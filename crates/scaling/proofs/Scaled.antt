@@ -45,6 +45,10 @@ scaled_le H n e = (scaled_is H n).lowest _ e
 pub scaled_bound : {H n : ℕ} → H ≤ 1000000 → n ≤ 1000 → scaled H n ≤ 10000000
 scaled_bound {H} {n} h_h hn = scaled_le H n {b = 10000000} (omega (arith, mul-le-mul (mul-le-mul h_h h_h) hn))
 
+-- and one for periods that no deal has
+pub scaled_wide : {H n : ℕ} → H ≤ 1000000 → n ≤ 2000 → scaled H n ≤ 20000000
+scaled_wide {H} {n} h_h hn = scaled_le H n {b = 20000000} (omega (arith, mul-le-mul (mul-le-mul h_h h_h) hn))
+
 -- a larger haircut, a longer period: no smaller
 pub scaled_mono : {H H' n n' : ℕ} → H ≤ H' → n ≤ n' → scaled H n ≤ scaled H' n'
 scaled_mono {H} {H'} {n} {n'} p q =

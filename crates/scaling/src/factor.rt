@@ -15,14 +15,14 @@ pub struct TimeFactor {
     pub period: u64,
     // The whole scaled to the period, the square root of period / 10 in millionths, rounded up.
     pub millionths: u64,
-    // There is room for periods up to 1,000, and none is above 269.
-    pub ghost short: { period ≤ 1000 },
+    // None is above 269. There is room for more, so that terms that are refused, too, have both their factors wherever they had one.
+    pub ghost short: { period ≤ 2000 },
     pub ghost scaled_millionths: { millionths ≡ scaled 1000000 period },
 }
 
 impl TimeFactor {
     pub fn of_period(period: u64) -> TimeFactor
-        requires { period ≤ 1000 }
+        requires { period ≤ 2000 }
         ensures { result.period ≡ period }
     {
         let millionths = if is_daily(period) {
@@ -35,7 +35,7 @@ impl TimeFactor {
 
     // The factor of a period, which may be the one at hand.
     pub fn for_period(self, period: u64) -> TimeFactor
-        requires { period ≤ 1000 }
+        requires { period ≤ 2000 }
         ensures { result.period ≡ period }
     {
         if self.period == period {

@@ -10,7 +10,7 @@ const ABOVE_ALL: u64 = 16_777_216;
 // low + width is not. Rounding up keeps the relief from being too large. No root is taken for a period of daily revaluation.
 pub fn scaled_haircut(haircut: u64, period: u64) -> u64
     requires haircut_bound { haircut ≤ 1000000 }
-    requires period_bound { period ≤ 1000 }
+    requires period_bound { period ≤ 2000 }
     requires not_daily { is_daily period ≡ false }
     ensures value { result ≡ scaled haircut period }
     ensures least { IsScaled haircut period result }

@@ -1,5 +1,5 @@
 // The figures of a deal's own edition, the number in its book's header. A version of the tables is a type and an edition a number, so each of
-// these chooses by itself.
+// these chooses by itself. Type, step and life come singly, as the definitions and `Table` take them, and so do class and steps.
 ghost use Rattle.std.specs.Prelude.{◌≡◌, eqb, ◌≤◌};
 ghost use Rattle.tables.specs.Table.{table_of};
 ghost use Rattle.tables.specs.Version2023.{edition_2023};

@@ -33,7 +33,7 @@ const WEIGHTS: [[u8; 7]; 3] = [
     [100, 20, 50, 100, 100, 150, 150],
 ];
 
-// Up to one and five years, and above.
+// Up to one and five years, and above. Each version has edges of its own.
 #[tactic(auto, unfolding(crate::specs::Haircuts::band_of))]
 fn band(life: u64) -> usize
     ensures band { result ≡ band_of life }

@@ -41,7 +41,7 @@ const WEIGHTS: [[u8; 7]; 3] = [
     [100, 20, 50, 75, 100, 150, 150],
 ];
 
-// Up to one, three, five and ten years, and above.
+// Up to one, three, five and ten years, and above. Each version has edges of its own.
 #[tactic(auto, unfolding(crate::specs::Version2023::band_of_2023))]
 fn band(life: u64) -> usize
     ensures band { result ≡ band_of_2023 life }

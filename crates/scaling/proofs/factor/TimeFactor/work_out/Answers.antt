@@ -3,28 +3,28 @@ use native.Mathlib.Nat.{mul-le-mul}
 use native.Mathlib.Decide.{dec_le}
 use Rattle.scaling.specs.Scaling.{scaled}
 use Rattle.scaling.proofs.Below.{both_some, whole_some, share_too_small}
-use Rattle.scaling.proofs.Scaled.{larger, scaled_bound, scaled_by_step, scaled_le}
+use Rattle.scaling.proofs.Scaled.{larger, scaled_by_step, scaled_le, scaled_wide}
 use Rattle.scaling.proofs.factor.TimeFactor.work_out.Goals as goal
 
 -- what is known of a factor and a haircut whose target is not 0
-product_low : (H n w : ℕ) → H ≤ 1000000 → n ≤ 1000 → w ≡ scaled 1000000 n → H * (w - 1) ≤ 1000000 * 10000000
+product_low : (H n w : ℕ) → H ≤ 1000000 → n ≤ 2000 → w ≡ scaled 1000000 n → H * (w - 1) ≤ 1000000 * 20000000
 product_low H n w h k e =
-    let b : w - 1 ≤ 10000000 = omega (arith, e, scaled_bound {H = 1000000} {n = n} (omega arith) k) in
+    let b : w - 1 ≤ 20000000 = omega (arith, e, scaled_wide {H = 1000000} {n = n} (omega arith) k) in
     mul-le-mul h b
 
-target_low : (H n : ℕ) → H ≤ 1000000 → n ≤ 1000 → H * H * n ≤ 1000000000000000
+target_low : (H n : ℕ) → H ≤ 1000000 → n ≤ 2000 → H * H * n ≤ 2000000000000000
 target_low H n h k = omega (arith, mul-le-mul (mul-le-mul h h) k)
 
 some_factor : (H n w : ℕ) → 1 ≤ H * H * n → w ≡ scaled 1000000 n → 1 ≤ w
 some_factor H n w t e = omega (arith, e, whole_some n (both_some H n t).1)
 
 -- the number that is tried is not large
-tried : (target h : ℕ) → target ≤ 1000000000000000 → 10 * (h - 1) * (h - 1) < target → h ≤ 10000000
-tried target h t i = go (dec_le h 10000000)
+tried : (target h : ℕ) → target ≤ 2000000000000000 → 10 * (h - 1) * (h - 1) < target → h ≤ 20000000
+tried target h t i = go (dec_le h 20000000)
   where
-    go : Dec (h ≤ 10000000) → h ≤ 10000000
+    go : Dec (h ≤ 20000000) → h ≤ 20000000
     go (yes le) = le
-    go (no gt) = let le : 10000000 ≤ h - 1 = omega arith in absurd (omega (arith, t, i, larger le))
+    go (no gt) = let le : 20000000 ≤ h - 1 = omega arith in absurd (omega (arith, t, i, larger le))
 
 pub returns-then-target-eq0 : goal.returns-then-target-eq0
 returns-then-target-eq0 c = omega (arith, scaled_le c.args.haircut c.args.self.period {b = 0} (omega arith))
