@@ -6,7 +6,7 @@ use lib.Dec.{eqb}
 use Rattle.base.specs.Least.{least, between}
 use Rattle.base.proofs.Choice.{either}
 use Rattle.scaling.specs.Scaling.{scaled}
-use Rattle.scaling.proofs.Scaled.{scaled_bound}
+use Rattle.scaling.proofs.Scaled.{scaled_bound, scaled_wide}
 use Rattle.valuation.specs.Haircuts.{scaled_currency_haircut, combined_haircut}
 
 -- each haircut is scaled by itself: the sum of 20000 and 80000 scaled to 20 days would be 141422, one too few
@@ -18,3 +18,8 @@ each_by_itself = refl
 pub currency_bound : (a b : ℕ) {n : ℕ} → n ≤ 1000 → scaled_currency_haircut a b n ≤ 10000000
 unfolding scaled_currency_haircut
 currency_bound a b hn = either (λ c. c ≤ 10000000) (eqb a b) (λ e. omega arith) (λ e. scaled_bound (omega arith) hn)
+
+-- and one for periods that no deal has
+pub currency_wide : (a b : ℕ) {n : ℕ} → n ≤ 2000 → scaled_currency_haircut a b n ≤ 20000000
+unfolding scaled_currency_haircut
+currency_wide a b hn = either (λ c. c ≤ 20000000) (eqb a b) (λ e. omega arith) (λ e. scaled_wide (omega arith) hn)

@@ -17,7 +17,7 @@ pub fn scaled_currency_haircut(factor: TimeFactor, currency: u64, deal_currency:
 }
 
 // The haircuts of collateral, each scaled by itself.
-#[tactic(auto, using(scaling::proofs::Scaled::scaled_bound, crate::proofs::CombinedHaircut::currency_bound), unfolding(crate::specs::Haircuts::combined_haircut))]
+#[tactic(auto, using(scaling::proofs::Scaled::scaled_wide, crate::proofs::CombinedHaircut::currency_wide), unfolding(crate::specs::Haircuts::combined_haircut))]
 pub fn combined_haircut(factor: TimeFactor, haircut: u64, currency: u64, deal_currency: u64) -> u64
     requires { haircut ≤ 1000000 }
     ensures { result ≡ combined_haircut haircut currency deal_currency factor.period }
