@@ -22,8 +22,8 @@ pub const SENT_GUARANTEE_WIDTH: usize = 10;
 
 pub const SENT_SWAP_WIDTH: usize = 11;
 
-// A party's, which stand in the same places of a deal and of a guarantee.
-fn party_in(fields: &[u64]) -> Party
+// A party's, which stand in the same places of a deal, of a guarantee and of a netting set.
+pub fn party_in(fields: &[u64]) -> Party
     requires { 4 ≤ length fields.now }
     ensures { result ≡ party_in fields.now }
 {

@@ -1,5 +1,6 @@
 // Numbers put into a lent list. Each answer is the place behind what was put: by a place beside the list, so that each contract is one `Placed`
-// of what the caller lends.
+// of what the caller lends. Those of bytes are `put_byte` and `put_bytes` of result: `Placed` is of lists of numbers, and no list over a type
+// parameter is one.
 ghost use Rattle.std.specs.Prelude.{◌+◌, ◌≤◌, ◌≡◌, ◌∷◌, [], ℕ, List, length};
 ghost use Rattle.base.specs.Writing.{Placed};
 ghost use Rattle.hadlephoga.specs.Records.{in_order};

@@ -164,6 +164,7 @@ pub fn hadlephoga_report_deal(numbers: &[u64], report: &mut [u64]) -> u64
     }
     let reported = report_in(numbers);
     put_report(report, reported);
+    // Of a deal's refusal, where `number` is of a line's.
     match reported.answer {
         Ok(()) => 0,
         Err(refusal) => refusal.number(),

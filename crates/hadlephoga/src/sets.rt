@@ -42,7 +42,7 @@ impl From<SetRefusal> for NumbersRefusal {
 }
 
 // So many positions, from the front; zeros behind them. Of more than there are places for only the first are read: such a set is refused,
-// whatever they are.
+// whatever they are. The count goes along, as the set holds it.
 fn positions_in(numbers: &[u64], count: usize) -> [Position; NettingSet::POSITION_LIMIT]
     requires { count * position_width ≤ length numbers.now }
     ensures { count ≤ 32 → take count result ≡ map position_in (slices position_width count numbers.now) }

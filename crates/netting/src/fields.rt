@@ -5,7 +5,7 @@ ghost use Rattle.netting.specs.Fields.{position_in, position_width, set_terms_in
 use crate::position::Position;
 use crate::terms::SetTerms;
 use deal::asset::Asset;
-use deal::party::Party;
+use deal::fields::party_in;
 
 // How many numbers there are of each.
 pub const SET_TERMS_WIDTH: usize = 6;
@@ -18,11 +18,7 @@ pub fn set_terms_in(fields: &[u64]) -> SetTerms
 {
     SetTerms {
         table: fields[0],
-        counterparty: Party {
-            class: fields[1],
-            step: fields[2],
-            sovereign_step: fields[3],
-        },
+        counterparty: party_in(fields),
         settlement: fields[4],
         interval: fields[5],
     }
