@@ -102,7 +102,7 @@ fn outcome_after_haircut(
 }
 
 impl TimedTerms {
-    // One guarantee; `counterparty_weight` is the counterparty's.
+    // One guarantee; `counterparty_weight` is the counterparty's, looked up once for all of them.
     #[tactic(auto, using(deal::proofs::Plain::plain_guarantee), unfolding(deal::specs::Editions::table_for))]
     pub fn guarantee_outcome(&self, item: Guarantee, counterparty_weight: u64) -> ValuedGuarantee
         requires { (guarantee_refusal item ≡ 0) × (counterparty_weight ≡ counterparty_weight_of (table_for self.now.terms) self.now.terms) }
