@@ -26,6 +26,7 @@ pub struct Collateral {
     pub listed: u64,
 }
 
+// An array and a count, and a type of its own: list.rt says why.
 #[derive(Clone, Copy, Debug, PartialEq, Eq)]
 pub struct CollateralList {
     pub items: [Collateral; Deal::COLLATERAL_LIMIT],

@@ -28,6 +28,7 @@ pub struct Guarantee {
     pub instrument: u64,
 }
 
+// An array and a count, and a type of its own: list.rt says why.
 #[derive(Clone, Copy, Debug, PartialEq, Eq)]
 pub struct GuaranteeList {
     pub items: [Guarantee; Deal::GUARANTEE_LIMIT],

@@ -1,4 +1,4 @@
-// What an item of the list of guarantees is: a guarantee, or a swap of which restructuring is no credit event, or is one. One number, so that
+// What an item of the list of guarantees is, as a number and no enum, as all codes are (`Terms`): a guarantee, or a swap of which restructuring is no credit event, or is one. One number, so that
 // a guarantee has no entry for a condition that is not asked of it.
 ghost use Rattle.std.specs.Prelude.{◌≡◌};
 ghost use Rattle.deal.specs.Instruments.{instrument_allowed, swap_with};

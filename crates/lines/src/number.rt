@@ -11,7 +11,8 @@ pub struct Number {
     pub digits: usize,
 }
 
-// The number that a text starts with. It ends before the first byte that is no digit.
+// The number that a text starts with. It ends before the first byte that is no digit. By hand: `parse` takes a sign and leading zeros, and wants
+// the end known.
 #[tactic(auto, using(crate::proofs::NumberLaws::none_passed, crate::proofs::NumberLaws::fits))]
 pub fn read_number(text: &[u8]) -> Option<Number>
     ensures { result ≡ number_of text.now }

@@ -3,7 +3,7 @@ use Rattle.std.specs.Prelude.{◌≤◌, ◌≡◌}
 use Rattle.scaling.specs.Scaling.{scaled}
 use Rattle.scaling.specs.declared.factor.TimeFactor.{TimeFactor}
 
--- `millionths` is 1,000,000 scaled to the period; the program has room for periods up to 1,000, and none is above 269. Each value of the type has it
+-- `millionths` is 1,000,000 scaled to the period, of at most 1,000 days; none that occurs is above 269. Each value of the type has it, up to that period
 pub record IsTimeFactor (r : TimeFactor) : Type 0 where
   pub short : r.period ≤ 1000
   pub scaled_millionths : r.millionths ≡ scaled 1000000 r.period

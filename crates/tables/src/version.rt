@@ -1,4 +1,5 @@
-// What each version of the tables brings: its own figures, each looked up in a table of its own, which differ in their bands. What the versions share stands in haircuts.rt and weights.rt.
+// What each version of the tables brings: its own figures, each looked up in a table beside it; those of debt differ in
+// their bands, and a constant table of the trait would be no plainer. What the versions share stands in haircuts.rt and weights.rt.
 ghost use Rattle.std.specs.Prelude.{◌≡◌, ◌≤◌, ℕ};
 
 pub trait Version {

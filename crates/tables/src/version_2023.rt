@@ -5,7 +5,7 @@ ghost use Rattle.tables.specs.Version2023.{band_of_2023, debt_haircut_2023, tabl
 use crate::haircuts::{column, row};
 use crate::version::Version;
 
-// The number of this version in a book's header.
+// The number of this version in a book's header. No enum, as `Terms` of deal holds whatever number was sent.
 pub const EDITION_2023: u64 = 3;
 
 // Debt, by row of steps (1; 2 and 3; 4), band of residual life, and column of issuers: sovereign, other, securitisation.
