@@ -1,4 +1,5 @@
 // What a line says behind its word: numbers, or a number and a text.
+ghost use Rattle.std.specs.Prelude.{◌≤◌, length};
 
 // Room for the word, and more numbers than any operation takes.
 pub const ROOM: usize = 256;
@@ -18,7 +19,9 @@ fn number(field: &[u8]) -> u64 {
 }
 
 // The numbers behind a line's word, each behind a space. The last place takes all that is left of a longer line.
-pub fn numbers<'a>(line: &[u8], places: &'a mut [u64; ROOM]) -> &'a [u64] {
+pub fn numbers<'a>(line: &[u8], places: &'a mut [u64; ROOM]) -> &'a [u64]
+    ensures { length result.now ≤ 255 }
+{
     for (place, field) in places.iter_mut().zip(line.splitn(ROOM, is_space)) {
         *place = number(field);
     }

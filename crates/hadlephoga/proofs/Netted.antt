@@ -1,24 +1,24 @@
 -- The reply to a netting set on numbers, by whether none is missing or too many. Assumes nothing.
 use Prim.Native.Nat.{ℕ, ◌+◌, ◌*◌, ◌-◌, ◌/◌, ◌%◌, ◌≤◌, ◌<◌}
-use mathlib.Core.Path.{◌≡◌, refl, sym, ap, ap₂, ◌∙◌}
+use mathlib.Core.Path.{◌≡◌, refl, sym, ap, ap₂, subst, ◌∙◌}
 use mathlib.Core.Bool.{Bool, true, false}
 use mathlib.Core.List.{List, map}
 use Rattle.std.proofs.Common.{leb, Result, Ok, Err}
-use Rattle.std.specs.Result.{IsErrAnd}
+use Rattle.std.specs.Result.{IfErr, IsErrAnd}
 use native.Mathlib.Omega.{arith}
 use lib.ListN.{drop, length, length-drop, take}
 use lib.Seq.{take_all}
 use borrow.Author.Tests.{eq-eqb, leb-false, leb-true, ne_eqb}
 use Rattle.base.proofs.Choice.{if_true, if_false}
 use Rattle.netting.specs.Fields.{position_in, position_width, set_terms_in}
-use Rattle.netting.specs.Reply.{refused_reply, reply_to, set_refusal_number}
+use Rattle.netting.specs.Reply.{OwnRefusal, refused_reply, reply_to, set_refusal_number}
 use Rattle.netting.specs.declared.position.Position.{Position}
 use Rattle.netting.specs.declared.refusal.SetRefusal.{SetRefusal}
 use Rattle.netting.specs.declared.set.NettingAmounts.{NettingAmounts}
 use Rattle.netting.specs.declared.terms.SetTerms.{SetTerms}
 use Rattle.netting.proofs.Replies.{many_alike}
 use Rattle.hadlephoga.specs.Records.{slices}
-use Rattle.hadlephoga.specs.Netting.{netting_reply, numbers_refusal_number, numbers_sent, position_count, positions_in, set_complete}
+use Rattle.hadlephoga.specs.Netting.{OwnNumbersRefusal, netting_reply, numbers_refusal_number, numbers_sent, position_count, positions_in, set_complete}
 use Rattle.hadlephoga.specs.declared.sets.NumbersRefusal.{NumbersRefusal}
 use Rattle.hadlephoga.specs.declared.sets.NumbersRefusal.TheVariants.{Malformed, Set}
 
@@ -66,6 +66,11 @@ pub set_passed : (r : Result NettingAmounts NumbersRefusal) (refusal : SetRefusa
 unfolding numbers_sent numbers_refusal_number
 set_passed (Ok x) refusal h = absurd h
 set_passed (Err e) refusal h = ap (λ f. refused_reply (numbers_refusal_number f)) h
+
+-- which is the set's own
+pub own_passed : (r : Result NettingAmounts NumbersRefusal) (refusal : SetRefusal) → IsErrAnd r (λ e. e ≡ Set refusal) → OwnRefusal refusal → IfErr r OwnNumbersRefusal
+own_passed (Ok x) refusal h own = tt
+own_passed (Err e) refusal h own = subst OwnNumbersRefusal (sym h) own
 
 -- what is sent, worked out
 sent_malformed : numbers_sent (Err Malformed) ≡ record { refusal = 11; exposure = 0; rwa = 0 }

@@ -1,12 +1,11 @@
 -- Pieces of a list of numbers, one for each place of an array. Assumes nothing.
-use Prim.Native.Nat.{ℕ, zero, suc, ◌+◌, ◌*◌, ◌-◌, ◌≤◌, ◌<◌}
-use mathlib.Core.Path.{◌≡◌, refl, sym, ap, ◌∙◌}
-use mathlib.Core.List.{List, [], ◌∷◌, map, ◌++◌, append-nil}
+use Prim.Native.Nat.{ℕ, zero, suc, ◌+◌, ◌*◌, ◌-◌, ◌<◌}
+use mathlib.Core.Path.{◌≡◌, refl, ap, ◌∙◌}
+use mathlib.Core.List.{List, [], ◌∷◌, map}
 use native.Mathlib.Nat.{le_of_suc-le-suc, not-suc-le-zero}
 use native.Mathlib.Omega.{arith}
-use lib.ListN.{length, take, drop, get_or, set, replicate, length-drop, length-replicate, take-append-drop, drop_of_length-le}
-use lib.Seq.{drop_at, drop-drop, length-take-le, take_all, take_at}
-use Rattle.base.proofs.Places.{fill_more}
+use lib.ListN.{length, take, drop, get_or, length-drop, take-append-drop}
+use lib.Seq.{drop_at, drop-drop, length-take-le, take_at}
 use Rattle.hadlephoga.specs.Records.{in_order, slices}
 
 pub length_slices : (width k : ℕ) (ns : List ℕ) → length (slices width k ns) ≡ k

@@ -1,8 +1,8 @@
 -- A netting set for callers in other languages, on numbers. 02: L6. Of lists of numbers the paper says nothing; it says of a book's line that a "wrong
 -- number of fields" is 11, which "comes before the operation's own refusals" (01: The book)
-use Rattle.std.specs.Prelude.{ℕ, Result, Ok, Err, ◌+◌, ◌*◌, ◌-◌, ◌/◌, Bool, List, map, eqb, drop, length, if◌then◌else◌}
+use Rattle.std.specs.Prelude.{ℕ, ⊤, Result, Ok, Err, ◌+◌, ◌*◌, ◌-◌, ◌/◌, Bool, List, map, eqb, drop, length, if◌then◌else◌}
 use Rattle.netting.specs.Fields.{position_in, position_width, set_terms_in, set_terms_width}
-use Rattle.netting.specs.Reply.{NettingReply, refused_reply, reply_sent, reply_to, set_refusal_number}
+use Rattle.netting.specs.Reply.{NettingReply, OwnRefusal, refused_reply, reply_sent, reply_to, set_refusal_number}
 use Rattle.netting.specs.declared.position.Position.{Position}
 use Rattle.netting.specs.declared.set.NettingAmounts.{NettingAmounts}
 use Rattle.hadlephoga.specs.Records.{slices}
@@ -31,6 +31,11 @@ netting_reply numbers = if set_complete numbers then reply_to (set_terms_in numb
 unfoldable pub numbers_refusal_number : NumbersRefusal → ℕ
 numbers_refusal_number Malformed = 11
 numbers_refusal_number (Set refusal) = set_refusal_number refusal
+
+-- what numbers are refused for: a set by a refusal of its own, so that the number determines it
+abbrev pub OwnNumbersRefusal : NumbersRefusal → Type 0
+OwnNumbersRefusal Malformed = ⊤
+OwnNumbersRefusal (Set refusal) = OwnRefusal refusal
 
 -- the numbers that a result is sent as
 unfoldable pub numbers_sent : Result NettingAmounts NumbersRefusal → NettingReply

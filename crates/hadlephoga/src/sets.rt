@@ -1,7 +1,7 @@
 // A netting set from numbers, and the reply to it.
-ghost use Rattle.std.specs.Prelude.{map, ◌≡◌, ◌*◌, ◌≤◌, length, take};
+ghost use Rattle.std.specs.Prelude.{IfErr, map, ◌≡◌, ◌*◌, ◌≤◌, length, take};
 ghost use Rattle.netting.specs.Fields.{position_in, position_width};
-ghost use Rattle.hadlephoga.specs.Netting.{netting_reply, numbers_refusal_number, numbers_sent};
+ghost use Rattle.hadlephoga.specs.Netting.{OwnNumbersRefusal, netting_reply, numbers_refusal_number, numbers_sent};
 ghost use Rattle.hadlephoga.specs.Records.{slices};
 ghost use Rattle.hadlephoga.specs.declared.sets.NumbersRefusal.TheVariants.{Set};
 
@@ -41,12 +41,15 @@ impl From<SetRefusal> for NumbersRefusal {
     }
 }
 
-// So many positions, from the front; zeros behind them. Of more than there are places for only the first are read: such a set is refused,
+// So many positions, from the front; zeros behind them. Of more than there are places for none is read: such a set is refused,
 // whatever they are. The count goes along, as the set holds it.
 fn positions_in(numbers: &[u64], count: usize) -> [Position; NettingSet::POSITION_LIMIT]
     requires { count * position_width ≤ length numbers.now }
     ensures { count ≤ 32 → take count result ≡ map position_in (slices position_width count numbers.now) }
 {
+    if count > NettingSet::POSITION_LIMIT {
+        return [Position::ZERO; NettingSet::POSITION_LIMIT];
+    }
     array::from_fn(|i| {
         if i < count {
             let at = i * POSITION_WIDTH;
@@ -59,7 +62,8 @@ fn positions_in(numbers: &[u64], count: usize) -> [Position; NettingSet::POSITIO
 
 // The reply to the set that these numbers are.
 pub fn net_numbers(numbers: &[u64]) -> Result<NettingAmounts, NumbersRefusal>
-    ensures { numbers_sent result ≡ netting_reply numbers.now }
+    ensures sent { numbers_sent result ≡ netting_reply numbers.now }
+    ensures own_refusal { IfErr result OwnNumbersRefusal }
 {
     if numbers.len() < SET_TERMS_WIDTH {
         return Err(NumbersRefusal::Malformed);

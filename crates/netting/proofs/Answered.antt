@@ -1,10 +1,12 @@
--- The numbers of answers: what `?` passes on keeps its number, and no refusal has 0. Assumes nothing.
-use Rattle.std.proofs.Common.{◌≡◌, ℕ, eqb, false, Result, Ok, Err, refl, sym, ap}
-use Rattle.std.specs.Result.{IsErrAnd}
+-- The numbers of answers: what `?` passes on keeps its number, no refusal has 0, and a number is that of one refusal. Assumes nothing.
+use Rattle.std.proofs.Common.{◌≡◌, ℕ, ◌-◌, eqb, false, [], ◌∷◌, get_or, Result, Ok, Err, refl, sym, ap, subst, ◌∙◌}
+use Rattle.std.specs.Result.{IfErr, IsErrAnd}
+use Rattle.base.proofs.Choice.{never}
 use Rattle.deal.specs.Answers.{answer_number, refusal_number}
 use Rattle.deal.specs.declared.refusal.Refusal.{Refusal}
+use Rattle.deal.specs.declared.refusal.Refusal.TheVariants.{AmountAboveLimit, UnknownCode, WrongStep, WrongCurrency, OutsideRange, ListFull, ResidualAboveOriginal, WrongCondition, RecordNotAccepted}
 use Rattle.deal.proofs.Answers.{accepted_by_number}
-use Rattle.netting.specs.Reply.{refused_reply, reply_sent, set_answer_number, set_refusal_number}
+use Rattle.netting.specs.Reply.{NettingReply, OwnRefusal, refused_reply, reply_sent, set_answer_number, set_refusal_number}
 use Rattle.netting.specs.declared.refusal.SetRefusal.{SetRefusal}
 use Rattle.netting.specs.declared.refusal.SetRefusal.TheVariants.{Field, SetFull, SecurityDisagrees, NotEligible, AmountsAboveLimit}
 use Rattle.netting.specs.declared.set.NettingAmounts.{NettingAmounts}
@@ -36,6 +38,60 @@ refusal_nonzero SetFull = refl
 refusal_nonzero SecurityDisagrees = refl
 refusal_nonzero NotEligible = refl
 refusal_nonzero AmountsAboveLimit = refl
+
+-- A NUMBER IS THAT OF ONE REFUSAL
+
+pub own_passed : {A : Type 0} (r : Result A SetRefusal) (refusal : SetRefusal) → IsErrAnd r (λ e. e ≡ refusal) → OwnRefusal refusal → IfErr r OwnRefusal
+own_passed (Ok x) refusal h own = tt
+own_passed (Err e) refusal h own = subst OwnRefusal (sym h) own
+
+pub own_numbered : (refusal : SetRefusal) → eqb (set_refusal_number refusal) 6 ≡ false → OwnRefusal refusal
+unfolding set_refusal_number refusal_number
+own_numbered refusal e q = never (ap (λ r. eqb (set_refusal_number r) 6) q) e
+
+-- the set's own refusal with a number; 9 and above, but for 15 to 17, stand for 40
+abbrev own_with : ℕ → SetRefusal
+own_with n =
+    get_or
+    (SetFull
+    ∷ Field AmountAboveLimit
+    ∷ Field UnknownCode
+    ∷ Field WrongStep
+    ∷ Field WrongCurrency
+    ∷ Field OutsideRange
+    ∷ SetFull
+    ∷ Field ResidualAboveOriginal
+    ∷ Field WrongCondition
+    ∷ [])
+    n
+    (get_or (SecurityDisagrees ∷ NotEligible ∷ AmountsAboveLimit ∷ []) (n - 15) (Field RecordNotAccepted))
+
+own_back : (refusal : SetRefusal) → OwnRefusal refusal → own_with (set_refusal_number refusal) ≡ refusal
+unfolding set_refusal_number refusal_number
+own_back (Field AmountAboveLimit) own = refl
+own_back (Field UnknownCode) own = refl
+own_back (Field WrongStep) own = refl
+own_back (Field WrongCurrency) own = refl
+own_back (Field OutsideRange) own = refl
+own_back (Field ListFull) own = absurd (own refl)
+own_back (Field ResidualAboveOriginal) own = refl
+own_back (Field WrongCondition) own = refl
+own_back (Field RecordNotAccepted) own = refl
+own_back SetFull own = refl
+own_back SecurityDisagrees own = refl
+own_back NotEligible own = refl
+own_back AmountsAboveLimit own = refl
+
+pub refusal_unique : (a b : SetRefusal) → OwnRefusal a → OwnRefusal b → set_refusal_number a ≡ set_refusal_number b → a ≡ b
+refusal_unique a b own own' e = sym (own_back a own) ∙ ap own_with e ∙ own_back b own'
+
+-- so what is sent determines the whole result
+pub reply_unique : (a b : Result NettingAmounts SetRefusal) → IfErr a OwnRefusal → IfErr b OwnRefusal → reply_sent a ≡ reply_sent b → a ≡ b
+unfolding reply_sent
+reply_unique (Ok a) (Ok b) own own' e = ap (λ (r : NettingReply). Ok record { exposure = r.exposure; rwa = r.rwa }) e
+reply_unique (Ok a) (Err b) own own' e = absurd (never (ap (λ (r : NettingReply). eqb r.refusal 0) (sym e)) (refusal_nonzero b))
+reply_unique (Err a) (Ok b) own own' e = absurd (never (ap (λ (r : NettingReply). eqb r.refusal 0) e) (refusal_nonzero a))
+reply_unique (Err a) (Err b) own own' e = ap Err (refusal_unique a b own own' (ap (λ (r : NettingReply). r.refusal) e))
 
 -- what is sent, worked out
 sent_full : reply_sent (Err SetFull) ≡ record { refusal = 6; exposure = 0; rwa = 0 }

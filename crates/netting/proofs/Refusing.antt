@@ -10,11 +10,11 @@ use lib.Seq.{drop-cons}
 use borrow.Author.Tests.{leb-true, le-ltb, lt-ltb, ltb-false, not-false as held}
 use Rattle.base.specs.Any.{any, any_two}
 use Rattle.base.specs.Each.{Each}
-use Rattle.base.specs.FirstMet.{NoneMet, ◌when◌, first_met}
+use Rattle.base.specs.FirstMet.{NoneMet, Test, ◌when◌, first_met}
 use Rattle.base.specs.Sum.{sum_of}
 use Rattle.base.proofs.EachElement.{each_then}
 use Rattle.base.proofs.Every.{both}
-use Rattle.base.proofs.FirstMet.{append_met, append_none, met_first, none_append, none_met, none_of, nonzero, nonzero_append, not_met}
+use Rattle.base.proofs.FirstMet.{EachGives, append_met, append_none, first_holds, met_first, none_append, none_met, none_of, nonzero, nonzero_append, not_met}
 use Rattle.base.proofs.Range.{bounds}
 use Rattle.deal.specs.Assets.{goods_known}
 use Rattle.deal.specs.Parties.{counterparty_known}
@@ -103,6 +103,31 @@ module _ (t : SetTerms) (n : ℕ) (ps : List Position) where
 
       pub over_all : first_met (fields_of_each ps) ≡ 0 → set_refusal t n ps ≡ first_met (tests_over_all ps)
       over_all q = behind_count ∙ append_none (fields_of_each ps) _ (fields_nonzero ps) q
+
+-- NO 6 BUT THE SET'S OWN
+
+abbrev not_six : ℕ → Type 0
+not_six n = eqb n 6 ≡ false
+
+none_six : (ts us : List (Test ℕ)) → EachGives not_six ts → EachGives not_six us → EachGives not_six (ts ++ us)
+none_six [] us h k = k
+none_six ((n when met) ∷ ts) us h k = (h.0, none_six ts us h.1 k)
+
+fields_not_six : (ps : List Position) → EachGives not_six (fields_of_each ps)
+unfolding fields_of_each position_tests
+fields_not_six [] = tt
+fields_not_six (p ∷ ps) = none_six (position_tests p) (fields_of_each ps) (refl, (refl, (refl, (refl, (refl, (refl, (refl, tt))))))) (fields_not_six ps)
+
+pub terms_six : (t : SetTerms) → eqb (set_terms_refusal t) 6 ≡ false
+unfolding set_terms_refusal set_terms_tests
+terms_six t = first_holds 0 not_six (set_terms_tests t) (refl, (refl, (refl, (refl, (refl, (refl, (refl, tt))))))) (λ _. refl)
+
+pub fields_six : (ps : List Position) → eqb (first_met (fields_of_each ps)) 6 ≡ false
+fields_six ps = first_holds 0 not_six (fields_of_each ps) (fields_not_six ps) (λ _. refl)
+
+pub over_all_six : (ps : List Position) → eqb (first_met (tests_over_all ps)) 6 ≡ false
+unfolding tests_over_all
+over_all_six ps = first_holds 0 not_six (tests_over_all ps) (refl, (refl, (refl, tt))) (λ _. refl)
 
 -- WHAT IS NOT REFUSED, in plain inequalities
 

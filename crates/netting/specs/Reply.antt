@@ -1,6 +1,7 @@
 -- The reply to a netting set. 02: L6
-use Rattle.std.specs.Prelude.{ℕ, ◌*◌, List, Result, Ok, Err, eqb, take, if◌then◌else◌}
+use Rattle.std.specs.Prelude.{ℕ, ◌*◌, ◌≢◌, List, Result, Ok, Err, eqb, take, if◌then◌else◌}
 use Rattle.deal.specs.Answers.{refusal_number}
+use Rattle.deal.specs.declared.refusal.Refusal.TheVariants.{ListFull}
 use Rattle.tables.specs.Table.{table_of}
 use Rattle.valuation.specs.Exposure.{risk_weighted_amount}
 use Rattle.netting.specs.Exposure.{exposure_after_netting}
@@ -54,6 +55,10 @@ set_refusal_number SetFull = 6
 set_refusal_number SecurityDisagrees = 15
 set_refusal_number NotEligible = 16
 set_refusal_number AmountsAboveLimit = 17
+
+-- what a set is refused for: its 6 is that of a full set, and never that of a full list of a deal, so its number determines the refusal (`refusal_unique`)
+abbrev pub OwnRefusal : SetRefusal → Type 0
+OwnRefusal refusal = refusal ≢ Field ListFull
 
 -- of an answer: the number of its refusal; 0 where nothing is refused
 unfoldable pub set_answer_number : {A : Type 0} → Result A SetRefusal → ℕ

@@ -1,11 +1,13 @@
-// The exposure after netting of a set that nothing refuses, and its counterparty's weight.
+// The exposure after netting, and the counterparty's weight.
 ghost use Rattle.std.specs.Prelude.{◌≡◌, ◌≤◌};
 ghost use Rattle.netting.specs.Exposure.{exposure_after_netting, exposure_of};
 ghost use Rattle.netting.specs.Reply.{set_weight};
+ghost use Rattle.netting.specs.Terms.{set_terms_refusal};
 
 use crate::accepted::AcceptedSet;
 use crate::group::Group;
 use crate::nets::{lent_total, net};
+use crate::terms::SetTerms;
 use signed::rounded_up;
 use tables::editions::counterparty_weight_under;
 
@@ -28,17 +30,18 @@ impl AcceptedSet<'_> {
         }
         lent_total(self.positions).min(rounded as u64)
     }
+}
 
-    // The counterparty's weight, under the set's own tables.
-    pub fn counterparty_weight(&self) -> u64
-        ensures { (result ≡ set_weight self.now.terms) × (result ≤ 150) }
-    {
-        let counterparty = self.terms.counterparty;
-        counterparty_weight_under(
-            self.terms.table,
-            counterparty.class,
-            counterparty.step,
-            counterparty.sovereign_step,
-        )
-    }
+// The counterparty's weight, under the set's own tables.
+pub fn weight_of(terms: SetTerms) -> u64
+    requires { set_terms_refusal terms ≡ 0 }
+    ensures { (result ≡ set_weight terms) × (result ≤ 150) }
+{
+    let counterparty = terms.counterparty;
+    counterparty_weight_under(
+        terms.table,
+        counterparty.class,
+        counterparty.step,
+        counterparty.sovereign_step,
+    )
 }

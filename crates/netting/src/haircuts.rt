@@ -20,19 +20,34 @@ pub fn factor_of(terms: SetTerms) -> TimeFactor
     TimeFactor::of_period(holding_period(REPO_STYLE, terms.interval))
 }
 
+// The haircut of a position's security. Goods that are not eligible can only have been lent.
+pub fn security_haircut(terms: SetTerms, factor: TimeFactor, position: &Position) -> u64
+    requires { factor.period ≡ set_period terms }
+    ensures { result ≡ security_haircut terms position.now }
+{
+    let asset = position.asset;
+    factor.scale(lent_haircut_under(terms.table, asset.goods, asset.step, asset.life))
+}
+
+// The haircut of currencies other than settlement.
+pub fn currency_haircut(terms: SetTerms, factor: TimeFactor) -> u64
+    requires { factor.period ≡ set_period terms }
+    ensures { result ≡ currency_haircut_over terms }
+{
+    factor.scale(CURRENCY)
+}
+
+// Both of a set: its days are few, so neither is above the whole.
 impl AcceptedSet<'_> {
-    // The haircut of a position's security. Goods that are not eligible can only have been lent.
     pub fn security_haircut(&self, position: &Position) -> u64
         ensures { (result ≡ security_haircut self.now.terms position.now) × (result ≤ 1000000) }
     {
-        let asset = position.asset;
-        self.factor.scale(lent_haircut_under(self.terms.table, asset.goods, asset.step, asset.life))
+        security_haircut(self.terms, self.factor, position)
     }
 
-    // The haircut of currencies other than settlement.
     pub fn currency_haircut(&self) -> u64
         ensures { (result ≡ currency_haircut_over self.now.terms) × (result ≤ 1000000) }
     {
-        self.factor.scale(CURRENCY)
+        currency_haircut(self.terms, self.factor)
     }
 }

@@ -1,9 +1,10 @@
 // A netting set, and the reply to it.
-ghost use Rattle.std.specs.Prelude.{◌≡◌, IfOk};
+ghost use Rattle.std.specs.Prelude.{◌≡◌, IfErr, IfOk};
 ghost use Rattle.netting.specs.Refusals.{set_refusal};
-ghost use Rattle.netting.specs.Reply.{positions_of, reply_sent, set_answer_number, set_reply};
+ghost use Rattle.netting.specs.Reply.{OwnRefusal, positions_of, reply_sent, set_answer_number, set_reply};
 
 use crate::accepted::AcceptedSet;
+use crate::exposure::weight_of;
 use crate::position::Position;
 use crate::refusal::{SetRefusal, check_fields, check_together};
 use crate::terms::SetTerms;
@@ -37,6 +38,7 @@ impl NettingSet {
     // The set as it is netted, or the first refusal that is due.
     fn accepted(&self) -> Result<AcceptedSet<'_>, SetRefusal>
         ensures refusal { set_answer_number result ≡ set_refusal self.now.terms self.now.count (positions_of self.now) }
+        ensures own_refusal { IfErr result OwnRefusal }
         ensures same { IfOk result (λ set. (set.terms ≡ self.now.terms) × (set.positions.now ≡ positions_of self.now)) }
     {
         self.terms.check()?;
@@ -51,13 +53,14 @@ impl NettingSet {
 
     // E* and the weighted amount of the set, or its refusal.
     pub fn reply(self) -> Result<NettingAmounts, SetRefusal>
-        ensures { reply_sent result ≡ set_reply self }
+        ensures sent { reply_sent result ≡ set_reply self }
+        ensures own_refusal { IfErr result OwnRefusal }
     {
         let set = self.accepted()?;
         let exposure = set.exposure_after_netting();
         Ok(NettingAmounts {
             exposure,
-            rwa: risk_weighted_amount(exposure * set.counterparty_weight()),
+            rwa: risk_weighted_amount(exposure * weight_of(self.terms)),
         })
     }
 }

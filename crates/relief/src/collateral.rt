@@ -5,6 +5,7 @@ ghost use Rattle.deal.specs.Editions.{table_for};
 ghost use Rattle.deal.specs.Collateral.{collateral_refusal};
 ghost use Rattle.deal.specs.Lists.{list_limit};
 ghost use Rattle.base.specs.Places.{in_places};
+ghost use Rattle.scaling.specs.Period.{holding_period};
 ghost use Rattle.relief.specs.Collateral.{collateral_outcome, combined_haircut_of};
 ghost use Rattle.relief.specs.Exposure.{collateral_total};
 ghost use Rattle.relief.specs.Report.{collateral_report, no_collateral};
@@ -16,6 +17,7 @@ use crate::outcome::Outcome;
 use deal::collateral::Collateral;
 use deal::deal::Deal;
 use deal::terms::Terms;
+use scaling::factor::TimeFactor;
 use tables::editions::haircut_under;
 use tables::eligibility::eligible;
 use valuation::haircuts::combined_haircut;
@@ -75,32 +77,46 @@ fn outcome_after_haircut(terms: Terms, item: Collateral, haircut: u64) -> Outcom
     Outcome::Valued(valuation)
 }
 
+// One item of collateral, under the time factor of the deal's period.
+#[tactic(auto, using(tables::proofs::EditionBounds::haircut_low), unfolding(deal::specs::Editions::table_for, crate::specs::Collateral::combined_haircut_of))]
+pub fn collateral_outcome(terms: Terms, item: Collateral, factor: TimeFactor) -> Outcome
+    requires { (item.amount ≤ 1000000000000) × (factor.period ≡ holding_period terms.kind terms.interval) }
+    ensures { result ≡ collateral_outcome (table_for terms) terms item }
+{
+    let asset = item.asset;
+    let own = haircut_under(terms.edition, asset.goods, asset.step, asset.life);
+    let haircut = combined_haircut(factor, own, item.currency, terms.currency);
+    outcome_after_haircut(terms, item, haircut)
+}
+
+// Every item of a deal's collateral.
+pub fn value_collateral(terms: Terms, items: &[Collateral], factor: TimeFactor) -> CollateralValues
+    requires items_value { (length items.now ≤ 16) × (all_pass items.now (λ c. eqb (collateral_refusal c) 0) ≡ true) }
+    requires period_value { factor.period ≡ holding_period terms.kind terms.interval }
+    ensures { (result.reports ≡ in_places list_limit no_collateral (map (collateral_report (table_for terms) terms) items.now)) × (result.total ≡ collateral_total (table_for terms) terms items.now) }
+{
+    let mut reports = [CollateralReport::NONE; Deal::COLLATERAL_LIMIT];
+    let mut total: u64 = 0;
+    for (i, item) in items.iter().enumerate() {
+        let outcome = collateral_outcome(terms, *item, factor);
+        reports[i] = CollateralReport { outcome };
+        total += outcome.valuation().value;
+    }
+    CollateralValues { reports, total }
+}
+
 impl TimedTerms {
-    // One item of collateral, under the time factor of the deal's period.
-    #[tactic(auto, using(tables::proofs::EditionBounds::haircut_low), unfolding(deal::specs::Editions::table_for, crate::specs::Collateral::combined_haircut_of))]
     pub fn collateral_outcome(&self, item: Collateral) -> Outcome
         requires { item.amount ≤ 1000000000000 }
         ensures { result ≡ collateral_outcome (table_for self.now.terms) self.now.terms item }
     {
-        let terms = self.terms;
-        let asset = item.asset;
-        let own = haircut_under(terms.edition, asset.goods, asset.step, asset.life);
-        let haircut = combined_haircut(self.factors.deal, own, item.currency, terms.currency);
-        outcome_after_haircut(terms, item, haircut)
+        collateral_outcome(self.terms, item, self.factors.deal)
     }
 
-    // Every item of a deal's collateral.
     pub fn value_collateral(&self, items: &[Collateral]) -> CollateralValues
         requires { (length items.now ≤ 16) × (all_pass items.now (λ c. eqb (collateral_refusal c) 0) ≡ true) }
         ensures { (result.reports ≡ in_places list_limit no_collateral (map (collateral_report (table_for self.now.terms) self.now.terms) items.now)) × (result.total ≡ collateral_total (table_for self.now.terms) self.now.terms items.now) }
     {
-        let mut reports = [CollateralReport::NONE; Deal::COLLATERAL_LIMIT];
-        let mut total: u64 = 0;
-        for (i, item) in items.iter().enumerate() {
-            let outcome = self.collateral_outcome(*item);
-            reports[i] = CollateralReport { outcome };
-            total += outcome.valuation().value;
-        }
-        CollateralValues { reports, total }
+        value_collateral(self.terms, items, self.factors.deal)
     }
 }

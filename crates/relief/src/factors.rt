@@ -7,6 +7,11 @@ use deal::terms::Terms;
 use scaling::factor::TimeFactor;
 use scaling::period::{guarantee_period, holding_period};
 
+const NO_PERIOD: TimeFactor = TimeFactor {
+    period: 0,
+    millionths: 0,
+};
+
 #[derive(Clone, Copy, Debug, PartialEq, Eq)]
 pub struct TimeFactors {
     // Of collateral and of the goods lent.
@@ -32,17 +37,18 @@ pub struct AcceptedTerms {
 }
 
 impl TimeFactors {
-    // Of no period that a deal has. A function and no constant, so that what their types promise is proved once.
+    // Of no period that a deal has.
+    pub const NONE: TimeFactors = TimeFactors {
+        deal: NO_PERIOD,
+        guarantees: NO_PERIOD,
+    };
+
+    // The same, so that what their types promise is proved once.
     #[tactic(auto, using(scaling::proofs::Below::factor_none))]
-    pub fn none() -> TimeFactors {
-        let factor = TimeFactor {
-            period: 0,
-            millionths: 0,
-        };
-        TimeFactors {
-            deal: factor,
-            guarantees: factor,
-        }
+    pub fn none() -> TimeFactors
+        ensures { (result.deal.period ≡ 0) × (result.guarantees.period ≡ 0) }
+    {
+        TimeFactors::NONE
     }
 
     // Those of a deal, some of which may be at hand.

@@ -15,6 +15,7 @@ use cover::protection::Protection;
 use deal::guarantee::Guarantee;
 use deal::instrument::SWAP_WITHOUT_RESTRUCTURING;
 use deal::terms::Terms;
+use scaling::factor::TimeFactor;
 use tables::classes::OTHER_ENTITY;
 use tables::editions::provider_weight_under;
 use valuation::haircuts::scaled_currency_haircut;
@@ -101,33 +102,46 @@ fn outcome_after_haircut(
     Outcome::Valued(valuation)
 }
 
+// One guarantee; `counterparty_weight` is the counterparty's, looked up once for all of them, `factor` that of the guarantees' period.
+#[tactic(auto, using(deal::proofs::Plain::plain_guarantee), unfolding(deal::specs::Editions::table_for))]
+pub fn guarantee_outcome(
+    terms: Terms,
+    item: Guarantee,
+    counterparty_weight: u64,
+    factor: TimeFactor,
+) -> ValuedGuarantee
+    requires item_value { (guarantee_refusal item ≡ 0) × (counterparty_weight ≡ counterparty_weight_of (table_for terms) terms) }
+    requires period_value { factor.period ≡ guarantee_period terms.interval }
+    ensures { (result.outcome ≡ guarantee_outcome (table_for terms) terms item) × (result.protection ≡ protection_of (table_for terms) terms item) }
+{
+    let provider = item.provider;
+    let weight = provider_weight_under(
+        terms.edition,
+        provider.class,
+        provider.step,
+        provider.sovereign_step,
+    );
+    let haircut = scaled_currency_haircut(factor, item.currency, terms.currency);
+    let outcome = outcome_after_haircut(terms, item, haircut, weight, counterparty_weight);
+    ValuedGuarantee {
+        outcome,
+        protection: Protection {
+            value: outcome.valuation().value,
+            weight,
+        },
+    }
+}
+
 impl TimedTerms {
-    // One guarantee; `counterparty_weight` is the counterparty's, looked up once for all of them.
-    #[tactic(auto, using(deal::proofs::Plain::plain_guarantee), unfolding(deal::specs::Editions::table_for))]
     pub fn guarantee_outcome(&self, item: Guarantee, counterparty_weight: u64) -> ValuedGuarantee
         requires { (guarantee_refusal item ≡ 0) × (counterparty_weight ≡ counterparty_weight_of (table_for self.now.terms) self.now.terms) }
         ensures { (result.outcome ≡ guarantee_outcome (table_for self.now.terms) self.now.terms item) × (result.protection ≡ protection_of (table_for self.now.terms) self.now.terms item) }
     {
-        let terms = self.terms;
-        let provider = item.provider;
-        let weight = provider_weight_under(
-            terms.edition,
-            provider.class,
-            provider.step,
-            provider.sovereign_step,
-        );
-        let haircut = scaled_currency_haircut(
+        guarantee_outcome(
+            self.terms,
+            item,
+            counterparty_weight,
             self.factors.guarantees,
-            item.currency,
-            terms.currency,
-        );
-        let outcome = outcome_after_haircut(terms, item, haircut, weight, counterparty_weight);
-        ValuedGuarantee {
-            outcome,
-            protection: Protection {
-                value: outcome.valuation().value,
-                weight,
-            },
-        }
+        )
     }
 }

@@ -2,9 +2,8 @@
 
 #![tactic(auto)]
 
-ghost use Rattle.std.specs.Prelude.{◌≡◌, ◌+◌, ◌≤◌, ◌==◌, drop, length};
-ghost use Rattle.std.specs.List.{position};
-ghost use Rattle.text.specs.Text.{first_line, line_feed, same_bytes, starts_with};
+ghost use Rattle.std.specs.Prelude.{◌≡◌, ◌+◌, ◌≤◌, drop, length};
+ghost use Rattle.text.specs.Text.{first_line, same_bytes, starts_with};
 ghost use Rattle.text.specs.NoFeeds.{no_feeds};
 ghost use Rattle.text.specs.WithinLine.{Near};
 
@@ -62,21 +61,15 @@ fn near_end(text: &[u8], start: usize) -> usize
     at
 }
 
-// How many bytes stand in front of the first line feed, if there is one.
-fn before_feed(text: &[u8]) -> Option<usize>
-    ensures { result ≡ position (λ byte. byte == line_feed) text.now }
-{
-    text.iter().position(|byte| *byte == LINE_FEED)
-}
-
-// Where the line that starts here ends: behind its line feed, or else where the text ends.
+// Where the line that starts here ends: behind its line feed, or else where the text ends. By a place, so that a line of a byte or two costs little.
 pub fn line_end(text: &[u8], start: usize) -> usize
     requires { start ≤ length text.now }
     ensures { result ≡ start + length (first_line (drop start text.now)) }
 {
-    let near = near_end(text, start);
-    match before_feed(&text[near..]) {
-        Some(before) => near + before + 1,
-        None => text.len(),
+    for at in near_end(text, start)..text.len() {
+        if text[at] == LINE_FEED {
+            return at + 1;
+        }
     }
+    text.len()
 }

@@ -1,14 +1,14 @@
-use Rattle.std.proofs.Common.{arith, sym, ◌∙◌, drop, length-drop, ℕ}
-use Rattle.text.proofs.Ends.{found, missing}
-use Rattle.text.proofs.Lines.{rest_part}
+use Rattle.std.proofs.Common.{arith}
+use borrow.Author.Tests.{ne_eqb}
+use Rattle.text.proofs.Ends.{fed, nearer, past}
 use Rattle.text.proofs.line_end.Goals as goal
 
-pub returns-in-Some : goal.returns-in-Some
-returns-in-Some c =
-    let rest = drop c.near_end-near.result c.args.text.now in
-    omega (arith, found rest c.in-Some.before (sym (rw rest_part at c.before_feed.ensures) ∙ c.in-Some.is))
+pub returns-then-text-at-eq-LINE_FEED : goal.returns-then-text-at-eq-LINE_FEED
+returns-then-text-at-eq-LINE_FEED c =
+    omega (arith, c.loop-at.invariant.same, fed c.args.text.now c.loop-at.at (omega arith) c.if-text-at-eq-LINE_FEED.true)
 
-pub returns-in-None : goal.returns-in-None
-returns-in-None c =
-    let rest = drop c.near_end-near.result c.args.text.now in
-    omega (arith, length-drop {A = ℕ}, missing rest (sym (rw rest_part at c.before_feed.ensures) ∙ c.in-None.is))
+pub loop-at-preserved : goal.loop-at-preserved
+loop-at-preserved c = nearer _ _ c.loop-at.at c.loop-at.invariant (omega arith) (ne_eqb _ _ c.if-text-at-eq-LINE_FEED.false)
+
+pub returns : goal.returns
+returns c = omega (arith, c.loop-at.invariant.same, c.loop-at.invariant.inside, past c.args.text.now c.loop-at.at (omega arith))

@@ -7,7 +7,7 @@ use Rattle.relief.specs.declared.guarantee.GuaranteeReport.{GuaranteeReport}
 use Rattle.relief.specs.Guarantees.{protection_of}
 use Rattle.relief.specs.Report.{no_guarantee}
 use Rattle.relief.specs.Portions.{without_portion, no_protection}
-use Rattle.relief.proofs.factors.TimedTerms.value_guarantees.Given as goal
+use Rattle.relief.proofs.guarantees.value_guarantees.Given as goal
 
 -- after i items the first i places of both arrays are filled
 pub record Holds (t : Terms) (items : List Guarantee) (reports : List GuaranteeReport) (protections : List Protection) (i : ℕ) : Type 0 where
@@ -16,4 +16,4 @@ pub record Holds (t : Terms) (items : List Guarantee) (reports : List GuaranteeR
   pub passed : i ≤ length items
 
 abbrev pub invariant-loop-i : goal.invariant-loop-i
-invariant-loop-i l = Holds l.self.terms l.items l.reports l.protections l.i
+invariant-loop-i l = Holds l.terms l.items l.reports l.protections l.i

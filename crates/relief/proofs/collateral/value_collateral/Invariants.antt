@@ -5,7 +5,7 @@ use Rattle.deal.specs.declared.collateral.Collateral.{Collateral}
 use Rattle.relief.specs.declared.collateral.CollateralReport.{CollateralReport}
 use Rattle.relief.specs.Exposure.{collateral_total}
 use Rattle.relief.specs.Report.{collateral_report, no_collateral}
-use Rattle.relief.proofs.factors.TimedTerms.value_collateral.Given as goal
+use Rattle.relief.proofs.collateral.value_collateral.Given as goal
 
 -- after i items the first i places are filled, and the total is theirs
 pub record Holds (t : Terms) (items : List Collateral) (reports : List CollateralReport) (total i : ℕ) : Type 0 where
@@ -15,4 +15,4 @@ pub record Holds (t : Terms) (items : List Collateral) (reports : List Collatera
   pub passed : i ≤ length items
 
 abbrev pub invariant-loop-i : goal.invariant-loop-i
-invariant-loop-i l = Holds l.self.terms l.items l.reports l.total l.i
+invariant-loop-i l = Holds l.terms l.items l.reports l.total l.i

@@ -1,4 +1,4 @@
--- `relief::guarantees::TimedTerms::value_guarantees`: what a further item adds. Assumes nothing.
+-- `relief::guarantees::value_guarantees`: what a further item adds. Assumes nothing.
 use Rattle.std.proofs.Common.{◌≡◌, ◌<◌, refl, arith, length, eqb, map}
 use lib.Seq.{take-length}
 use lib.ListN.{length-map}
@@ -11,10 +11,10 @@ use Rattle.deal.specs.Guarantees.{guarantee_refusal}
 use Rattle.relief.specs.Guarantees.{protection_of}
 use Rattle.relief.specs.Report.{no_guarantee}
 use Rattle.relief.specs.Portions.{without_portion, no_protection}
-use Rattle.relief.proofs.factors.TimedTerms.value_guarantees.Goals as goal
+use Rattle.relief.proofs.guarantees.value_guarantees.Goals as goal
 
-pub guarantee_outcome-valued-requires : goal.guarantee_outcome-valued-requires
-guarantee_outcome-valued-requires c =
+pub guarantee_outcome-valued-requires-clause-item_value : goal.guarantee_outcome-valued-requires-clause-item_value
+guarantee_outcome-valued-requires-clause-item_value c =
     (eqb-true _ 0 (all_in (λ x. eqb (guarantee_refusal x) 0) c.loop-i.i c.args.items.now zero_guarantee (omega arith) c.requires.items_value.1), c.requires.weight_value)
 
 pub loop-i-init : goal.loop-i-init
@@ -22,7 +22,7 @@ loop-i-init c = record { reported = refl; protected = refl; passed = omega arith
 
 pub loop-i-preserved : goal.loop-i-preserved
 loop-i-preserved c =
-    let terms = c.args.self.now.terms in
+    let terms = c.args.terms in
     let items = c.args.items.now in
     let i = c.loop-i.i in
     let h : i < length items = omega arith in
@@ -34,7 +34,7 @@ loop-i-preserved c =
 
 pub returns : goal.returns
 returns c =
-    let terms = c.args.self.now.terms in
+    let terms = c.args.terms in
     let items = c.args.items.now in
     let f = without_portion (table_for terms) terms in
     let g = protection_of (table_for terms) terms in
