@@ -1,6 +1,6 @@
 -- The reply to a netting set on numbers, by whether none is missing or too many. Assumes nothing.
 use Prim.Native.Nat.{ℕ, ◌+◌, ◌*◌, ◌-◌, ◌/◌, ◌%◌, ◌≤◌, ◌<◌}
-use mathlib.Core.Path.{◌≡◌, refl, sym, ap, ap₂, subst, ◌∙◌}
+use mathlib.Core.Path.{◌≡◌, refl, sym, ap, ap₂, ◌∙◌}
 use mathlib.Core.Bool.{Bool, true, false}
 use mathlib.Core.List.{List, map}
 use Rattle.std.proofs.Common.{leb, Result, Ok, Err}
@@ -9,13 +9,18 @@ use native.Mathlib.Omega.{arith}
 use lib.ListN.{drop, length, length-drop, take}
 use lib.Seq.{take_all}
 use borrow.Author.Tests.{eq-eqb, leb-false, leb-true, ne_eqb}
-use Rattle.base.proofs.Choice.{if_true, if_false}
+use Rattle.base.proofs.Choice.{if_true, if_false, never}
+use lib.Dec.{eqb}
+use Rattle.deal.specs.Answers.{refusal_number}
+use Rattle.deal.specs.declared.refusal.Refusal.TheVariants.{AmountAboveLimit, UnknownCode, WrongStep, WrongCurrency, OutsideRange, ListFull, ResidualAboveOriginal, WrongCondition, RecordNotAccepted}
 use Rattle.netting.specs.Fields.{position_in, position_width, set_terms_in}
-use Rattle.netting.specs.Reply.{OwnRefusal, refused_reply, reply_to, set_refusal_number}
+use Rattle.netting.specs.Reply.{NettingReply, refused_reply, reply_sent, reply_to, set_refusal_number}
 use Rattle.netting.specs.declared.position.Position.{Position}
 use Rattle.netting.specs.declared.refusal.SetRefusal.{SetRefusal}
 use Rattle.netting.specs.declared.set.NettingAmounts.{NettingAmounts}
 use Rattle.netting.specs.declared.terms.SetTerms.{SetTerms}
+use Rattle.netting.specs.declared.refusal.SetRefusal.TheVariants.{Field, SetFull, SecurityDisagrees, NotEligible, AmountsAboveLimit}
+use Rattle.netting.proofs.Answered.{refusal_nonzero, refusal_unique}
 use Rattle.netting.proofs.Replies.{many_alike}
 use Rattle.hadlephoga.specs.Records.{slices}
 use Rattle.hadlephoga.specs.Netting.{OwnNumbersRefusal, netting_reply, numbers_refusal_number, numbers_sent, position_count, positions_in, set_complete}
@@ -67,10 +72,42 @@ unfolding numbers_sent numbers_refusal_number
 set_passed (Ok x) refusal h = absurd h
 set_passed (Err e) refusal h = ap (λ f. refused_reply (numbers_refusal_number f)) h
 
--- which is the set's own
-pub own_passed : (r : Result NettingAmounts NumbersRefusal) (refusal : SetRefusal) → IsErrAnd r (λ e. e ≡ Set refusal) → OwnRefusal refusal → IfErr r OwnNumbersRefusal
-own_passed (Ok x) refusal h own = tt
-own_passed (Err e) refusal h own = subst OwnNumbersRefusal (sym h) own
+-- what numbers are refused for is that of no set: its number is 11
+not_malformed : (refusal : SetRefusal) → eqb (set_refusal_number refusal) 11 ≡ false
+unfolding set_refusal_number refusal_number
+not_malformed (Field AmountAboveLimit) = refl
+not_malformed (Field UnknownCode) = refl
+not_malformed (Field WrongStep) = refl
+not_malformed (Field WrongCurrency) = refl
+not_malformed (Field OutsideRange) = refl
+not_malformed (Field ListFull) = refl
+not_malformed (Field ResidualAboveOriginal) = refl
+not_malformed (Field WrongCondition) = refl
+not_malformed (Field RecordNotAccepted) = refl
+not_malformed SetFull = refl
+not_malformed SecurityDisagrees = refl
+not_malformed NotEligible = refl
+not_malformed AmountsAboveLimit = refl
+
+own_unique : (a b : NumbersRefusal) → OwnNumbersRefusal a → OwnNumbersRefusal b → numbers_refusal_number a ≡ numbers_refusal_number b → a ≡ b
+unfolding numbers_refusal_number
+own_unique Malformed Malformed own own' e = refl
+own_unique Malformed (Set b) own own' e = absurd (never (ap (λ n. eqb n 11) (sym e)) (not_malformed b))
+own_unique (Set a) Malformed own own' e = absurd (never (ap (λ n. eqb n 11) e) (not_malformed a))
+own_unique (Set a) (Set b) own own' e = ap Set (refusal_unique a b own own' e)
+
+some_number : (a : NumbersRefusal) → eqb (numbers_refusal_number a) 0 ≡ false
+unfolding numbers_refusal_number
+some_number Malformed = refl
+some_number (Set a) = refusal_nonzero a
+
+-- so what is sent determines the whole result
+pub numbers_unique : (a b : Result NettingAmounts NumbersRefusal) → IfErr a OwnNumbersRefusal → IfErr b OwnNumbersRefusal → numbers_sent a ≡ numbers_sent b → a ≡ b
+unfolding numbers_sent reply_sent
+numbers_unique (Ok a) (Ok b) own own' e = ap (λ (r : NettingReply). Ok record { exposure = r.exposure; rwa = r.rwa }) e
+numbers_unique (Ok a) (Err b) own own' e = absurd (never (ap (λ (r : NettingReply). eqb r.refusal 0) (sym e)) (some_number b))
+numbers_unique (Err a) (Ok b) own own' e = absurd (never (ap (λ (r : NettingReply). eqb r.refusal 0) e) (some_number a))
+numbers_unique (Err a) (Err b) own own' e = ap Err (own_unique a b own own' (ap (λ (r : NettingReply). r.refusal) e))
 
 -- what is sent, worked out
 sent_malformed : numbers_sent (Err Malformed) ≡ record { refusal = 11; exposure = 0; rwa = 0 }

@@ -1,5 +1,5 @@
 -- The numbers of answers: what `?` passes on keeps its number, no refusal has 0, and a number is that of one refusal. Assumes nothing.
-use Rattle.std.proofs.Common.{◌≡◌, ℕ, ◌-◌, eqb, false, [], ◌∷◌, get_or, Result, Ok, Err, refl, sym, ap, subst, ◌∙◌}
+use Rattle.std.proofs.Common.{◌≡◌, ℕ, ◌-◌, eqb, Bool, true, false, [], ◌∷◌, get_or, Result, Ok, Err, refl, sym, ap, subst, ◌∙◌}
 use Rattle.std.specs.Result.{IfErr, IsErrAnd}
 use Rattle.base.proofs.Choice.{never}
 use Rattle.deal.specs.Answers.{answer_number, refusal_number}
@@ -41,9 +41,23 @@ refusal_nonzero AmountsAboveLimit = refl
 
 -- A NUMBER IS THAT OF ONE REFUSAL
 
-pub own_passed : {A : Type 0} (r : Result A SetRefusal) (refusal : SetRefusal) → IsErrAnd r (λ e. e ≡ refusal) → OwnRefusal refusal → IfErr r OwnRefusal
-own_passed (Ok x) refusal h own = tt
-own_passed (Err e) refusal h own = subst OwnRefusal (sym h) own
+-- what holds of a refusal, where `?` passes it on
+pub err_passed : {A E : Type 0} (P : E → Type 0) (r : Result A E) {e : E} → IsErrAnd r (λ x. x ≡ e) → P e → IfErr r P
+err_passed P (Ok x) h p = tt
+err_passed P (Err x) h p = subst P (sym h) p
+
+own_full : OwnRefusal SetFull
+own_full e = never refl (ap is_full e)
+  where
+    is_full : SetRefusal → Bool
+    is_full SetFull = true
+    is_full (Field refusal) = false
+    is_full SecurityDisagrees = false
+    is_full NotEligible = false
+    is_full AmountsAboveLimit = false
+
+not_own : OwnRefusal (Field ListFull) → ⊥
+not_own own = own refl
 
 pub own_numbered : (refusal : SetRefusal) → eqb (set_refusal_number refusal) 6 ≡ false → OwnRefusal refusal
 unfolding set_refusal_number refusal_number

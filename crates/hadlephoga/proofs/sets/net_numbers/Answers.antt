@@ -1,7 +1,8 @@
 use Rattle.std.proofs.Common.{◌-◌, length, take, drop, sym, ◌∙◌, arith}
-use Rattle.hadlephoga.specs.Netting.{numbers_refusal_number, numbers_sent}
-use Rattle.hadlephoga.proofs.Netted.{behind_length, behind_terms, netted, own_passed, reply_malformed, set_passed, too_short}
+use Rattle.hadlephoga.specs.Netting.{OwnNumbersRefusal, numbers_refusal_number, numbers_sent}
+use Rattle.hadlephoga.proofs.Netted.{behind_length, behind_terms, netted, reply_malformed, set_passed, too_short}
 use Rattle.netting.specs.Reply.{reply_sent, set_reply}
+use Rattle.netting.proofs.Answered.{err_passed}
 use Rattle.hadlephoga.proofs.sets.net_numbers.Goals as goal
 
 pub returns-then-numbers-lt-SET_TERMS_WIDTH-clause-sent : goal.returns-then-numbers-lt-SET_TERMS_WIDTH-clause-sent
@@ -21,7 +22,7 @@ returns-in_err-reply-clause-sent c =
     ∙ netted ns rest c.set_terms_in.result c.positions_in.result (behind_terms ns) c.if-numbers-lt-SET_TERMS_WIDTH.false c.if-positions-ne0.false c.set_terms_in.ensures c.positions_in.ensures
 
 pub returns-in_err-reply-clause-own_refusal : goal.returns-in_err-reply-clause-own_refusal
-returns-in_err-reply-clause-own_refusal c = own_passed _ _ c.from_residual.ensures.1 c.in_err-reply.ensures.own_refusal
+returns-in_err-reply-clause-own_refusal c = err_passed OwnNumbersRefusal _ c.from_residual.ensures.1 c.in_err-reply.ensures.own_refusal
 
 pub returns-clause-sent : goal.returns-clause-sent
 unfolding numbers_sent reply_sent set_reply

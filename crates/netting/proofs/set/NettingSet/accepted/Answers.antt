@@ -1,8 +1,8 @@
 use Rattle.std.proofs.Common.{eqb, sym, ap, ◌∙◌}
 use Rattle.deal.specs.Answers.{answer_number, refusal_number}
-use Rattle.netting.specs.Reply.{positions_of, set_answer_number, set_refusal_number}
+use Rattle.netting.specs.Reply.{OwnRefusal, positions_of, set_answer_number, set_refusal_number}
 use Rattle.netting.specs.declared.refusal.SetRefusal.TheVariants.{Field}
-use Rattle.netting.proofs.Answered.{field_nonzero, field_passed, own_numbered, own_passed, passed, refusal_nonzero}
+use Rattle.netting.proofs.Answered.{err_passed, field_nonzero, field_passed, own_numbered, passed, refusal_nonzero}
 use Rattle.netting.proofs.Refusing.{fields_six, over_all, over_all_six, position_refused, terms_refused, terms_six, too_many}
 use Rattle.netting.proofs.Replies.{fitting}
 use Rattle.netting.proofs.set.NettingSet.accepted.Goals as goal
@@ -19,7 +19,7 @@ pub returns-in_err-check-clause-own_refusal : goal.returns-in_err-check-clause-o
 unfolding answer_number set_refusal_number
 returns-in_err-check-clause-own_refusal c =
     let own = own_numbered (Field c.in_err-check.field-0.0) (ap (λ n. eqb n 6) c.in_err-check.ensures ∙ terms_six c.args.self.now.terms) in
-    own_passed _ _ c.from_residual.ensures.1 own
+    err_passed OwnRefusal _ c.from_residual.ensures.1 own
 
 pub returns-then-self-gt-POSITION_LIMIT-clause-refusal : goal.returns-then-self-gt-POSITION_LIMIT-clause-refusal
 unfolding answer_number refusal_number set_answer_number set_refusal_number
@@ -40,7 +40,7 @@ pub returns-in_err-check_fields-clause-own_refusal : goal.returns-in_err-check_f
 unfolding set_answer_number
 returns-in_err-check_fields-clause-own_refusal c =
     let own = own_numbered c.in_err-check_fields.field-0.0 (ap (λ n. eqb n 6) c.in_err-check_fields.ensures ∙ fields_six _) in
-    own_passed _ _ c.from_residual-in_err-check_fields.ensures.1 own
+    err_passed OwnRefusal _ c.from_residual-in_err-check_fields.ensures.1 own
 
 pub check_together-requires-clause-positions_value : goal.check_together-requires-clause-positions_value
 unfolding set_answer_number
@@ -57,7 +57,7 @@ pub returns-in_err-check_together-clause-own_refusal : goal.returns-in_err-check
 unfolding set_answer_number
 returns-in_err-check_together-clause-own_refusal c =
     let own = own_numbered c.in_err-check_together.field-0.0 (ap (λ n. eqb n 6) c.in_err-check_together.ensures ∙ over_all_six _) in
-    own_passed _ _ c.from_residual-in_err-check_together.ensures.1 own
+    err_passed OwnRefusal _ c.from_residual-in_err-check_together.ensures.1 own
 
 pub new-requires : goal.new-requires
 unfolding answer_number set_answer_number

@@ -1,8 +1,8 @@
 use Rattle.std.proofs.Common.{◌*◌, eqb, sym, ap, ap₂, ◌∙◌}
 use Rattle.valuation.specs.Exposure.{risk_weighted_amount}
 use Rattle.netting.specs.Exposure.{exposure_after_netting}
-use Rattle.netting.specs.Reply.{positions_of, refused_reply, reply_sent, set_answer_number, set_reply, weighted_amount}
-use Rattle.netting.proofs.Answered.{own_passed, refusal_nonzero, sent_refused}
+use Rattle.netting.specs.Reply.{OwnRefusal, positions_of, refused_reply, reply_sent, set_answer_number, set_reply, weighted_amount}
+use Rattle.netting.proofs.Answered.{err_passed, refusal_nonzero, sent_refused}
 use Rattle.netting.proofs.Refusing.{plain_set}
 use Rattle.netting.proofs.Replies.{accepted_reply, refused_reply_lem, same_figures}
 use Rattle.netting.proofs.set.NettingSet.reply.Goals as goal
@@ -16,7 +16,7 @@ returns-in_err-set-clause-sent c =
     ∙ sym (refused_reply_lem s.terms s.count (positions_of s) (ap (λ n. eqb n 0) (sym e) ∙ refusal_nonzero c.in_err-set.field-0.0))
 
 pub returns-in_err-set-clause-own_refusal : goal.returns-in_err-set-clause-own_refusal
-returns-in_err-set-clause-own_refusal c = own_passed _ _ c.from_residual.ensures.1 c.in_err-set.ensures.own_refusal
+returns-in_err-set-clause-own_refusal c = err_passed OwnRefusal _ c.from_residual.ensures.1 c.in_err-set.ensures.own_refusal
 
 pub weight_of-requires : goal.weight_of-requires
 unfolding set_answer_number
